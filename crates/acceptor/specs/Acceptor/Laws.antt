@@ -1,0 +1,47 @@
+-- The places of Q, and testing Q place by place.
+--     bytes-bound, voteAt-bound                      a product of two bytes and a place of Q are small, so the code's numbers fit
+--     areVotes-step, areVotes-stop, areVotes-end     one place further: it is in order, it is not, there is none
+-- Assumes nothing.
+use Prim.Native.Nat.{ℕ, suc, _+_, _*_, _-_, _≤_, _<_}
+use native.Mathlib.Nat.{mul-le-mul}
+use native.Mathlib.Omega.{arith}
+use mathlib.Core.Bool.{true, false}
+use mathlib.Core.List.{List, [], _∷_}
+use mathlib.Core.Path.{_≡_, refl}
+use lib.ListN.{length, getD, drop, length-drop}
+use lib.Seq.{drop-cons}
+use Rattle.message.specs.declared.Plan.{Plan}
+use Rattle.acceptor.specs.Acceptor.{voteAt, isVoteState, areVotes}
+
+pub bytes-bound : (a b : ℕ) → a < 256 → b < 256 → a * b ≤ 65025
+bytes-bound a b p q = mul-le-mul {n₁ = a} {m₁ = b} {n₂ = 255} {m₂ = 255} (omega arith) (omega arith)
+
+pub voteAt-bound : (p : Plan) (ins acc : ℕ) → p .acceptors < 256 → ins < 256 → acc < 256 → voteAt p ins acc ≤ 195840
+unfolding voteAt
+voteAt-bound p ins acc a i c = omega (arith, bytes-bound ins (p .acceptors) i a)
+
+module _ (l : List ℕ) (i : ℕ) where
+  drop-three : 2 < length l - i → drop i l ≡ getD l i 0 ∷ getD l (i + 1) 0 ∷ getD l (i + 2) 0 ∷ drop (i + 3) l
+  drop-three h =
+      let one : suc i ≡ i + 1 = omega arith in
+      let two : suc (i + 1) ≡ i + 2 = omega arith in
+      let three : suc (i + 2) ≡ i + 3 = omega arith in
+      rw (drop-cons l i 0 (omega arith), one, drop-cons l (i + 1) 0 (omega arith), two, drop-cons l (i + 2) 0 (omega arith), three)
+
+  pub areVotes-step : 2 < length l - i → isVoteState (getD l (i + 1) 0) (getD l (i + 2) 0) ≡ true → areVotes (drop (i + 3) l) ≡ areVotes (drop i l)
+  unfolding areVotes
+  areVotes-step h e = rw (drop-three h, e)
+
+  pub areVotes-stop : 2 < length l - i → isVoteState (getD l (i + 1) 0) (getD l (i + 2) 0) ≡ false → areVotes (drop i l) ≡ false
+  unfolding areVotes
+  areVotes-stop h e = rw (drop-three h, e)
+
+areVotes-short : (l : List ℕ) → length l ≤ 2 → areVotes l ≡ true
+unfolding areVotes
+areVotes-short [] h = refl
+areVotes-short (mbal ∷ []) h = refl
+areVotes-short (mbal ∷ bal ∷ []) h = refl
+areVotes-short (mbal ∷ bal ∷ val ∷ votes) h = absurd (omega (arith, h))
+
+pub areVotes-end : (l : List ℕ) (i : ℕ) → length l - i ≤ 2 → areVotes (drop i l) ≡ true
+areVotes-end l i h = areVotes-short (drop i l) (omega (arith, length-drop i l))

@@ -1,0 +1,3 @@
+-- The step of an acceptor.
+--     Acceptor   what an event of kind 3 changes, or its refusal
+pub mod Acceptor

@@ -1,0 +1,98 @@
+// What the steps of all roles share: the event's four bytes, and the answer (document 01, "The nine events").
+//
+//     is_event          row 7 of "Refusals by place": four bytes, a kind, a process and arguments in range
+//     slot_number       the slot that kinds 2, 3 and 4 name
+//     Answer, answer_number   an accepted event's slot or quiet, or the refusal's number
+ghost use mathlib.Core.Path.{_≡_};
+ghost use Rattle.message.specs.Outcome.{numberOf};
+ghost use Rattle.event.specs.Event.{whoLimit, areZero, areArguments, isEvent, slotNumber};
+ghost use Rattle.event.specs.Answer.{answerOutcome};
+use message::Plan;
+
+// How many processes the kind's role has: resource managers for 0 to 2, acceptors for 3, leaders from 4 on.
+fn who_limit(plan: Plan, kind: u8) -> u8
+    ensures { λ r. ⌜ r ≡ whoLimit plan kind ⌝ }
+{
+    if kind <= 2 {
+        return plan.rms;
+    }
+    if kind == 3 {
+        return plan.acceptors;
+    }
+    plan.leaders
+}
+
+fn are_zero(high: u8, low: u8) -> bool
+    ensures { λ r. ⌜ r ≡ areZero high low ⌝ }
+{
+    if high != 0 {
+        return false;
+    }
+    if low != 0 {
+        return false;
+    }
+    true
+}
+
+// Whether high and low are in range for the kind: both 0 for 0, 1, 7 and 8; an instance in high for 5 and 6.
+fn are_arguments(plan: Plan, kind: u8, high: u8, low: u8) -> bool
+    ensures { λ r. ⌜ r ≡ areArguments plan kind high low ⌝ }
+{
+    if kind <= 1 {
+        return are_zero(high, low);
+    }
+    if kind <= 4 {
+        return true;
+    }
+    if 6 < kind {
+        return are_zero(high, low);
+    }
+    if plan.rms <= high {
+        return false;
+    }
+    true
+}
+
+// Whether the bytes are an event of the plan; where they are not, every role refuses 7.
+pub fn is_event(plan: Plan, event: &[u8]) -> bool
+    ensures { λ r. ⌜ r ≡ isEvent plan (now (event .entry)) ⌝ }
+{
+    if event.len() != 4 {
+        return false;
+    }
+    let kind = event[0];
+    if 8 < kind {
+        return false;
+    }
+    if who_limit(plan, kind) <= event[1] {
+        return false;
+    }
+    are_arguments(plan, kind, event[2], event[3])
+}
+
+// The slot of N that an event of kind 2, 3 or 4 names: 256 × high + low.
+pub fn slot_number(event: &[u8]) -> usize
+    ensures { λ r. ⌜ r ≡ slotNumber (now (event .entry)) ⌝ }
+{
+    let high = message::byte_at(event, 2);
+    let low = message::byte_at(event, 3);
+    256 * (high as usize) + low as usize
+}
+
+// A step's answer: the first slot of N where the sent message stands, quiet for kinds 2 and 4, or the refusal's number.
+pub enum Answer {
+    Sent(usize),
+    Quiet,
+    Refused(u8),
+}
+
+// The refusal's number in an answer, 0 where the event was accepted.
+pub fn answer_number(answer: Answer) -> u8
+    ensures { λ r. ⌜ r ≡ numberOf (answerOutcome answer) ⌝ }
+{
+    match answer {
+        Answer::Sent(_) => 0,
+        Answer::Quiet => 0,
+        Answer::Refused(number) => number,
+    }
+}

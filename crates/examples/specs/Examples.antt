@@ -1,0 +1,96 @@
+-- Document 01's proved examples: one table, and one theorem for it, over the definitions that the calls' contracts name.
+--     Result     what a call answers: the reader's outcome, or a step's answer and tables
+--     Example    an example by document 01's number: what is computed, and what document 01 says
+--     examples   the table
+--     examples-hold   each entry computes to what it says
+-- Assumes nothing.
+use Prim.Native.Nat.{ℕ}
+use mathlib.Core.List.{List, [], _∷_, _++_, map}
+use mathlib.Core.Path.{_≡_, refl}
+use Rattle.message.specs.declared.Plan.{Plan}
+use Rattle.message.specs.declared.Vote.the-variants.{None}
+use Rattle.message.specs.declared.Message.{Message}
+use Rattle.message.specs.declared.Message.the-variants.{Phase1b, Phase2a}
+use Rattle.message.specs.Outcome.{Outcome, accepted, refused, refuseIf}
+use Rattle.message.specs.Plan.{isPlan, isCount}
+use Rattle.message.specs.Form.{isValue, isVote, isInRange, bytesOf, bytesOf1b, messageLength, slotOf, mapLengths, mapLength, fieldsMessage, decode}
+use Rattle.message.specs.Codec.{readMessage}
+use Rattle.slots.specs.All.{all}
+use Rattle.slots.specs.Table.{isTableLength, slotsUpTo, slots, isZero, readSlot, readTable, allUnused, isOrdered, isTable, usedMessages, messages}
+use Rattle.slots.specs.Scan.{sameBytes, storeAt}
+use Rattle.slots.specs.Send.{sameMessage, placeFrom, placeIn, messageAt}
+use Rattle.slots.specs.View.{sending}
+use Rattle.event.specs.Event.{slotNumber, whoLimit, areZero, areArguments, isEvent}
+use Rattle.event.specs.Answer.{Sent, slot}
+use Rattle.event.specs.Step.{Step}
+use Rattle.acceptor.specs.Acceptor.{voteAt, isVoteState, areVotes, voteOf, phase1b, phase2b, acceptorReceiveMessage, acceptorReceive, acceptorDecide, acceptorStep}
+use Rattle.paxos_commit.specs.Quorum.{countAcceptors, isMajority, isQuorum}
+use Rattle.leader.specs.Leader.{owns, any, is1b, is2a, is2b, higher, reportOf, highestReport, proposal, chosen, isChosen2b, decided, decidedAll, keepOwn, sendBoth, phase2a, sendOnly, decideSend, leaderKind, leaderDecide, leaderStep}
+
+pub data Result : Type 0 where
+  reads : Outcome Message → Result
+  steps : Step → Result
+
+pub record Example : Type 0 where
+  pub number : ℕ
+  pub computed : Result
+  pub expected : Result
+
+-- n = 1, L = 1, and so many acceptors
+abbrev pub planOf : ℕ → Plan
+planOf acceptors = record { rms = 1; acceptors = acceptors; leaders = 1 }
+
+-- an unused slot
+abbrev pub free : List ℕ
+free = 0 ∷ 0 ∷ 0 ∷ 0 ∷ 0 ∷ 0 ∷ []
+
+-- 1a and 2a of instance 0, and 1b messages of instance 0 with mbal 3 and no vote, as they stand in slots
+abbrev pub slot1a : ℕ → List ℕ
+slot1a bal = 0x09 ∷ 0x00 ∷ bal ∷ 0 ∷ 0 ∷ 0 ∷ []
+
+abbrev pub slot2a : ℕ → ℕ → List ℕ
+slot2a bal val = 0x19 ∷ 0x00 ∷ bal ∷ val ∷ 0 ∷ 0 ∷ []
+
+abbrev pub slot1b : ℕ → List ℕ
+slot1b acc = 0x07 ∷ 0x00 ∷ acc ∷ 0x03 ∷ 0 ∷ 0 ∷ []
+
+abbrev pub stepOf : Outcome Sent → List ℕ → List ℕ → Result
+stepOf answer table network = steps (record { answer = answer; table = table; network = network })
+
+-- 7 to 10: an acceptor at mbal 2 takes the message in slot 0; a slot is unused after it
+abbrev pub acceptorAt2 : List ℕ → Result
+acceptorAt2 message = steps (acceptorStep (planOf 1) (0x02 ∷ 0x00 ∷ 0x00 ∷ []) (message ++ free) (3 ∷ 0 ∷ 0 ∷ 0 ∷ []))
+
+-- 11 and 12: Phase2a at ballot 3 on an inbox with an unused slot after its messages
+abbrev pub phase2aAt3 : ℕ → List ℕ → Result
+phase2aAt3 acceptors inbox = steps (leaderStep (planOf acceptors) (inbox ++ free) free (6 ∷ 0 ∷ 0 ∷ 3 ∷ []))
+
+pub examples : List Example
+examples =
+    record { number = 1; computed = reads (readMessage (planOf 1) (0x19 ∷ 0x00 ∷ 0x00 ∷ 0x01 ∷ [])); expected = reads (accepted (Phase2a 0 0 1)) }
+    ∷ record { number = 2; computed = reads (readMessage (planOf 1) (0x07 ∷ 0x00 ∷ 0x00 ∷ 0x01 ∷ [])); expected = reads (accepted (Phase1b 0 0 1 None)) }
+    ∷ record { number = 3; computed = reads (readMessage (planOf 1) (0x00 ∷ [])); expected = reads (refused 15) }
+    ∷ record { number = 4; computed = reads (readMessage (planOf 1) (0x19 ∷ 0x00 ∷ 0x00 ∷ [])); expected = reads (refused 16) }
+    ∷ record { number = 5; computed = reads (readMessage (planOf 1) (0x19 ∷ 0x00 ∷ 0x00 ∷ 0x03 ∷ [])); expected = reads (refused 17) }
+    ∷ record { number = 6; computed = reads (readMessage (planOf 1) (0x09 ∷ 0x00 ∷ 0x00 ∷ [])); expected = reads (refused 17) }
+    ∷ record { number = 7; computed = acceptorAt2 (slot2a 2 1); expected = stepOf (accepted (slot 1)) (0x02 ∷ 0x02 ∷ 0x01 ∷ []) (slot2a 2 1 ++ (0x1B ∷ 0 ∷ 0 ∷ 2 ∷ 1 ∷ 0 ∷ [])) }
+    ∷ record { number = 8; computed = acceptorAt2 (slot2a 1 1); expected = stepOf (refused 12) (0x02 ∷ 0x00 ∷ 0x00 ∷ []) (slot2a 1 1 ++ free) }
+    ∷ record { number = 9; computed = acceptorAt2 (slot1a 2); expected = stepOf (refused 12) (0x02 ∷ 0x00 ∷ 0x00 ∷ []) (slot1a 2 ++ free) }
+    ∷ record { number = 10; computed = acceptorAt2 (slot1a 3); expected = stepOf (accepted (slot 1)) (0x03 ∷ 0x00 ∷ 0x00 ∷ []) (slot1a 3 ++ (0x07 ∷ 0 ∷ 0 ∷ 3 ∷ 0 ∷ 0 ∷ [])) }
+    ∷ record {
+      number = 11;
+      computed = phase2aAt3 3 ((0x1F ∷ 0x00 ∷ 0x00 ∷ 0x03 ∷ 0x00 ∷ 0x01 ∷ []) ++ (0x1F ∷ 0x00 ∷ 0x01 ∷ 0x03 ∷ 0x02 ∷ 0x02 ∷ []));
+      expected = stepOf (accepted (slot 0)) ((0x1F ∷ 0x00 ∷ 0x00 ∷ 0x03 ∷ 0x00 ∷ 0x01 ∷ []) ++ ((0x1F ∷ 0x00 ∷ 0x01 ∷ 0x03 ∷ 0x02 ∷ 0x02 ∷ []) ++ (0x19 ∷ 0x00 ∷ 0x03 ∷ 0x02 ∷ 0 ∷ 0 ∷ []))) (0x19 ∷ 0x00 ∷ 0x03 ∷ 0x02 ∷ 0 ∷ 0 ∷ []);
+    }
+    ∷ record { number = 12; computed = phase2aAt3 4 (slot1b 0 ++ slot1b 1); expected = stepOf (refused 12) (slot1b 0 ++ (slot1b 1 ++ free)) free }
+    ∷ record { number = 12; computed = phase2aAt3 4 (slot1b 0 ++ (slot1b 1 ++ slot1b 2)); expected = stepOf (accepted (slot 0)) (slot1b 0 ++ (slot1b 1 ++ (slot1b 2 ++ slot2a 3 2))) (slot2a 3 2) }
+    ∷ record {
+      number = 13;
+      computed = steps (leaderStep (planOf 3) ((0x1B ∷ 0 ∷ 0 ∷ 0 ∷ 1 ∷ 0 ∷ []) ++ ((0x1B ∷ 0 ∷ 1 ∷ 3 ∷ 1 ∷ 0 ∷ []) ++ free)) free (7 ∷ 0 ∷ 0 ∷ 0 ∷ []));
+      expected = stepOf (refused 12) ((0x1B ∷ 0 ∷ 0 ∷ 0 ∷ 1 ∷ 0 ∷ []) ++ ((0x1B ∷ 0 ∷ 1 ∷ 3 ∷ 1 ∷ 0 ∷ []) ++ free)) free;
+    }
+    ∷ []
+
+pub examples-hold : map (λ (e : Example). e .computed) examples ≡ map (λ (e : Example). e .expected) examples
+unfolding examples readMessage refuseIf isPlan isCount isValue isVote isInRange bytesOf bytesOf1b messageLength slotOf mapLengths mapLength fieldsMessage decode all isTableLength slotsUpTo slots isZero readSlot readTable allUnused isOrdered isTable usedMessages messages sameBytes storeAt sameMessage placeFrom placeIn messageAt sending slotNumber whoLimit areZero areArguments isEvent voteAt isVoteState areVotes voteOf phase1b phase2b acceptorReceiveMessage acceptorReceive acceptorDecide acceptorStep countAcceptors isMajority isQuorum owns any is1b is2a is2b higher reportOf highestReport proposal chosen isChosen2b decided decidedAll keepOwn sendBoth phase2a sendOnly decideSend leaderKind leaderDecide leaderStep
+examples-hold = refl

@@ -1,0 +1,24 @@
+-- `leader::receipt_message` meets its contract: each arm says which message it is. Assumes nothing.
+use Rattle.leader.specs.Leader.{receiptMessage}
+use mathlib.Core.Path.{_∙_}
+use borrow.Author.Needs.{needs}
+use Rattle.leader.proofs.receipt_message.Statement.{statement}
+use Rattle.leader.proofs.receipt_message.Tie as tie
+
+pub receipt-message-spec : {M : Type 1} → statement M
+unfolding receiptMessage
+receipt-message-spec =
+    tie.close
+    (tie.spec
+    (λ c. search needs)
+    (λ c. search needs)
+    (λ c κs. tt)
+    (λ c. search needs)
+    (λ c. search needs)
+    (λ c κs. tt)
+    (λ c. search needs)
+    (λ c. rw (c .enum-told .given .1))
+    (λ c. c .receipt-store .ensures ∙ rw (c .before .enum-told2 .given .1))
+    (λ c. rw (c .enum-told3 .given .1))
+    (λ c. c .receipt-store2 .ensures ∙ rw (c .before .enum-told4 .given .1))
+    (λ c. rw (c .enum-told5 .given .1)))

@@ -1,0 +1,45 @@
+-- The reader and the writer (document 01, "Message bytes"; rows 1, 15, 16 and 17 of "Refusals by place").
+--     readMessage, readOutcome     the message that a slice is, or the refusal; what the reader's enum stands for
+--     writeMessage                 the writer's answer: the number, six bytes and a length, all zero if it refuses
+-- Their laws are in Codec/Laws.antt. Assumes nothing.
+pub mod Laws
+use Prim.Native.Nat.{ℕ}
+use mathlib.Core.Bool.{not}
+use mathlib.Core.List.{List}
+use lib.Dec.{eqb}
+use lib.ListN.{length, getD, replicate}
+use Rattle.message.specs.declared.Plan.{Plan}
+use Rattle.message.specs.declared.Message.{Message}
+use Rattle.message.specs.declared.Read.{Read}
+use Rattle.message.specs.declared.Read.the-variants as Reads
+use Rattle.message.specs.declared.Written.{Written}
+use Rattle.message.specs.Outcome.{Outcome, accepted, refused, refuseIf}
+use Rattle.message.specs.Plan.{isPlan}
+use Rattle.message.specs.Form.{slotSize, slotOf, messageLength, mapLength, decode, isInRange}
+
+-- the message that a slice is
+unfoldable pub readMessage : Plan → List ℕ → Outcome Message
+readMessage p bytes =
+    refuseIf (not (isPlan p)) 1
+    (refuseIf (eqb (length bytes) 0) 15
+    (refuseIf (eqb (mapLength (getD bytes 0 0)) 0) 15
+    (refuseIf (not (eqb (length bytes) (mapLength (getD bytes 0 0)))) 16
+    (refuseIf (not (isInRange p (decode bytes))) 17
+    (accepted (decode bytes))))))
+
+-- what the reader's enum stands for
+abbrev pub readOutcome : Read → Outcome Message
+readOutcome (Reads.Message m) = accepted m
+readOutcome (Reads.Refused number) = refused number
+
+-- the writer's answer: number 0, the message followed by zeros and its length; or the number, six zeros and 0
+abbrev pub written : Outcome Message → Written
+written (accepted m) = record { number = 0; bytes = slotOf m; len = messageLength m }
+written (refused number) = record { number = number; bytes = replicate slotSize 0; len = 0 }
+
+-- the writer
+unfoldable pub writeMessage : Plan → Message → Written
+writeMessage p m =
+    written (refuseIf (not (isPlan p)) 1
+    (refuseIf (not (isInRange p m)) 17
+    (accepted m)))

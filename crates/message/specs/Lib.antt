@@ -1,0 +1,9 @@
+-- The definitions of the message layer, in document 01's order.
+--     Outcome   what a call answers: the value, or the lowest refusal number
+--     Plan      the plan and its range (refusal 1)
+--     Form      messages, their ranges (refusal 17) and their bytes
+--     Codec     the reader and the writer
+pub mod Outcome
+pub mod Plan
+pub mod Form
+pub mod Codec

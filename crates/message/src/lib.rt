@@ -1,0 +1,371 @@
+// The plan of an order, the messages, and their one byte form (document 01, "The plan and four tables" and "Message bytes").
+//
+//     Plan, is_plan                  the three counts, and refusal 1
+//     Message, Vote                  the messages of the protocol; the vote report of a 1b
+//     SLOT_SIZE, map_length          the bytes of a slot; the length that a bit map stands for
+//     is_value, in_range             the ranges of the fields, and refusal 17
+//     byte_at, decode_message        the bytes of a slot that was judged before
+//     Read, read_message, read_refusal   the reader
+//     encode, Written, write_message the byte form by itself, and the writer
+//
+// What each of them means stands in specs/.
+ghost use mathlib.Core.Path.{_≡_};
+ghost use Prim.Native.Nat.{ℕ};
+ghost use lib.ListN.{getD};
+ghost use Rattle.message.specs.Outcome.{numberOf};
+ghost use Rattle.message.specs.Plan.{isPlan};
+ghost use Rattle.message.specs.Form.{isValue, isVote, isInRange, slotOf, messageLength, mapLength, fieldsMessage, decode};
+ghost use Rattle.message.specs.Codec.{readOutcome, readMessage, writeMessage};
+
+// The plan of an order: how many resource managers (document 01: weights), acceptors and leaders it has.
+pub struct Plan {
+    pub rms: u8,
+    pub acceptors: u8,
+    pub leaders: u8,
+}
+
+// Whether the plan is in range: 1 to 16 resource managers, 1 to 7 acceptors, 1 to 4 leaders. Where it is not, every call refuses 1.
+pub fn is_plan(plan: Plan) -> bool
+    ensures { λ r. ⌜ r ≡ isPlan plan ⌝ }
+{
+    if plan.rms < 1 {
+        return false;
+    }
+    if 16 < plan.rms {
+        return false;
+    }
+    if plan.acceptors < 1 {
+        return false;
+    }
+    if 7 < plan.acceptors {
+        return false;
+    }
+    if plan.leaders < 1 {
+        return false;
+    }
+    if 4 < plan.leaders {
+        return false;
+    }
+    true
+}
+
+// What a 1b says of the acceptor's last vote: none, or its ballot and value (document 01: the vote report).
+pub enum Vote {
+    None,
+    Cast { bal: u8, val: u8 },
+}
+
+// A message, with raw bytes in its fields: instance, acceptor, ballots, value.
+pub enum Message {
+    Phase1a {
+        ins: u8,
+        bal: u8,
+    },
+    Phase1b {
+        ins: u8,
+        acc: u8,
+        mbal: u8,
+        vote: Vote,
+    },
+    Phase2a {
+        ins: u8,
+        bal: u8,
+        val: u8,
+    },
+    Phase2b {
+        ins: u8,
+        acc: u8,
+        bal: u8,
+        val: u8,
+    },
+    Decision {
+        val: u8,
+    },
+}
+
+// The bytes of a slot, and of the writer's answer: the longest message fits.
+pub const SLOT_SIZE: usize = 6;
+
+// The length of the message that a bit map begins, 0 for an unknown map (document 01's constant table of 32 entries).
+const MAP_LENGTHS: [usize; 32] = [
+    0,
+    0,
+    0,
+    0,
+    0,
+    0,
+    0,
+    4,
+    0,
+    3,
+    0,
+    0,
+    0,
+    0,
+    0,
+    0,
+    2,
+    0,
+    0,
+    0,
+    0,
+    0,
+    0,
+    0,
+    0,
+    4,
+    0,
+    5,
+    0,
+    0,
+    0,
+    6,
+];
+
+// The length that a first byte stands for: the table's entry, or 0 past its end.
+pub fn map_length(map: u8) -> usize
+    ensures { λ r. ⌜ r ≡ mapLength map ⌝ }
+{
+    let index = map as usize;
+    if 32 <= index {
+        return 0;
+    }
+    MAP_LENGTHS[index]
+}
+
+// Whether a byte is a value: 1 prepared or 2 aborted.
+pub fn is_value(val: u8) -> bool
+    ensures { λ r. ⌜ r ≡ isValue val ⌝ }
+{
+    if val < 1 {
+        return false;
+    }
+    if 2 < val {
+        return false;
+    }
+    true
+}
+
+fn is_vote(vote: Vote) -> bool
+    ensures { λ r. ⌜ r ≡ isVote vote ⌝ }
+{
+    match vote {
+        Vote::None => true,
+        Vote::Cast { bal: _, val } => is_value(val),
+    }
+}
+
+// Whether every field is in its range under the plan; where one is not, reader and writer refuse 17.
+pub fn in_range(plan: Plan, m: Message) -> bool
+    ensures { λ r. ⌜ r ≡ isInRange plan m ⌝ }
+{
+    match m {
+        Message::Phase1a { ins, bal } => {
+            if plan.rms <= ins {
+                return false;
+            }
+            if bal < 1 {
+                return false;
+            }
+            true
+        }
+        Message::Phase1b {
+            ins,
+            acc,
+            mbal: _,
+            vote,
+        } => {
+            if plan.rms <= ins {
+                return false;
+            }
+            if plan.acceptors <= acc {
+                return false;
+            }
+            is_vote(vote)
+        }
+        Message::Phase2a { ins, bal: _, val } => {
+            if plan.rms <= ins {
+                return false;
+            }
+            is_value(val)
+        }
+        Message::Phase2b {
+            ins,
+            acc,
+            bal: _,
+            val,
+        } => {
+            if plan.rms <= ins {
+                return false;
+            }
+            if plan.acceptors <= acc {
+                return false;
+            }
+            is_value(val)
+        }
+        Message::Decision { val } => is_value(val),
+    }
+}
+
+// The reader's answer: the message, or the refusal's number.
+pub enum Read {
+    Message(Message),
+    Refused(u8),
+}
+
+// The byte at an index, or 0 past the end.
+pub fn byte_at(bytes: &[u8], at: usize) -> u8
+    ensures { λ r. ⌜ r ≡ getD (now (bytes .entry)) at 0 ⌝ }
+{
+    if at < bytes.len() { bytes[at] } else { 0 }
+}
+
+// The message that a known map and the five bytes after it make.
+fn fields_message(map: u8, b1: u8, b2: u8, b3: u8, b4: u8, b5: u8) -> Message
+    ensures { λ r. ⌜ r ≡ fieldsMessage map b1 b2 b3 b4 b5 ⌝ }
+{
+    if map == 0x09 {
+        return Message::Phase1a { ins: b1, bal: b2 };
+    }
+    if map == 0x07 {
+        return Message::Phase1b {
+            ins: b1,
+            acc: b2,
+            mbal: b3,
+            vote: Vote::None,
+        };
+    }
+    if map == 0x1F {
+        return Message::Phase1b {
+            ins: b1,
+            acc: b2,
+            mbal: b3,
+            vote: Vote::Cast { bal: b4, val: b5 },
+        };
+    }
+    if map == 0x19 {
+        return Message::Phase2a {
+            ins: b1,
+            bal: b2,
+            val: b3,
+        };
+    }
+    if map == 0x1B {
+        return Message::Phase2b {
+            ins: b1,
+            acc: b2,
+            bal: b3,
+            val: b4,
+        };
+    }
+    Message::Decision { val: b1 }
+}
+
+// The message that the bytes make where their map is known. It judges nothing.
+pub fn decode_message(bytes: &[u8]) -> Message
+    ensures { λ r. ⌜ r ≡ decode (now (bytes .entry)) ⌝ }
+{
+    fields_message(
+        byte_at(bytes, 0),
+        byte_at(bytes, 1),
+        byte_at(bytes, 2),
+        byte_at(bytes, 3),
+        byte_at(bytes, 4),
+        byte_at(bytes, 5),
+    )
+}
+
+// The reader. The slice is exactly one message: that message, or 1, 15 (empty slice or unknown map), 16 (another length than the
+// map's) or 17 (a field out of range).
+pub fn read_message(plan: Plan, bytes: &[u8]) -> Read
+    ensures { λ r. ⌜ readOutcome r ≡ readMessage plan (now (bytes .entry)) ⌝ }
+{
+    if !is_plan(plan) {
+        return Read::Refused(1);
+    }
+    if bytes.len() == 0 {
+        return Read::Refused(15);
+    }
+    let len = map_length(bytes[0]);
+    if len == 0 {
+        return Read::Refused(15);
+    }
+    if bytes.len() != len {
+        return Read::Refused(16);
+    }
+    let m = decode_message(bytes);
+    if !in_range(plan, m) {
+        return Read::Refused(17);
+    }
+    Read::Message(m)
+}
+
+// The refusal's number in a reader's answer, 0 where it is a message.
+pub fn read_refusal(answer: Read) -> u8
+    ensures { λ r. ⌜ r ≡ numberOf (readOutcome answer) ⌝ }
+{
+    match answer {
+        Read::Message(_) => 0,
+        Read::Refused(number) => number,
+    }
+}
+
+fn encode_1b(ins: u8, acc: u8, mbal: u8, vote: Vote) -> [u8; SLOT_SIZE]
+    ensures { λ r. ⌜ r ≡ slotOf (Message.Phase1b ins acc mbal vote) ⌝ }
+{
+    match vote {
+        Vote::None => [0x07, ins, acc, mbal, 0, 0],
+        Vote::Cast { bal, val } => [0x1F, ins, acc, mbal, bal, val],
+    }
+}
+
+// A message followed by zeros, as it stands in a slot. It judges nothing.
+pub fn encode(m: Message) -> [u8; SLOT_SIZE]
+    ensures { λ r. ⌜ r ≡ slotOf m ⌝ }
+{
+    match m {
+        Message::Phase1a { ins, bal } => [0x09, ins, bal, 0, 0, 0],
+        Message::Phase1b {
+            ins,
+            acc,
+            mbal,
+            vote,
+        } => encode_1b(ins, acc, mbal, vote),
+        Message::Phase2a { ins, bal, val } => [0x19, ins, bal, val, 0, 0],
+        Message::Phase2b { ins, acc, bal, val } => [0x1B, ins, acc, bal, val, 0],
+        Message::Decision { val } => [0x10, val, 0, 0, 0, 0],
+    }
+}
+
+// The writer's answer: number 0, a message followed by zeros and its length; or the refusal's number, zeros and 0.
+pub struct Written {
+    pub number: u8,
+    pub bytes: [u8; SLOT_SIZE],
+    pub len: usize,
+}
+
+// The writer: the byte form of a message, or 1 or 17 (a field out of range).
+pub fn write_message(plan: Plan, m: Message) -> Written
+    ensures { λ r. ⌜ r ≡ writeMessage plan m ⌝ }
+{
+    if !is_plan(plan) {
+        return Written {
+            number: 1,
+            bytes: [0; SLOT_SIZE],
+            len: 0,
+        };
+    }
+    if !in_range(plan, m) {
+        return Written {
+            number: 17,
+            bytes: [0; SLOT_SIZE],
+            len: 0,
+        };
+    }
+    let bytes = encode(m);
+    Written {
+        number: 0,
+        bytes,
+        len: map_length(bytes[0]),
+    }
+}

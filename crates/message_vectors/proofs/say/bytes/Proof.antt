@@ -1,0 +1,26 @@
+-- `message_vectors::say::bytes` is safe and ends: the loop counts the bytes up to the length. Assumes nothing.
+use Prim.Native.Nat.{_≤_, _-_}
+use lib.ListN.{length}
+use borrow.Author.Needs.{needs}
+use Rattle.message_vectors.proofs.say.bytes.Statement.{statement}
+use Rattle.message_vectors.proofs.say.bytes.Tie as tie
+
+abbrev Inv-loop : tie.InvT-loop
+Inv-loop part i₀ i = i ≤ length part
+
+abbrev μ-loop : tie.MeasureT-loop
+μ-loop part i₀ i = length part - i
+
+pub bytes-spec : {M : Type 1} → statement M
+bytes-spec =
+    tie.close
+    (tie.spec
+    Inv-loop
+    μ-loop
+    (λ c. search needs)
+    (λ c. search needs)
+    (λ c κs. tt)
+    (λ c. search needs)
+    (λ c. search needs)
+    (λ c. search needs)
+    (λ c. search needs))

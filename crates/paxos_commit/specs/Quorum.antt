@@ -1,0 +1,20 @@
+-- Sets of acceptors (document 01: "A majority is any set of acceptors with 2 × size > A").
+--     countAcceptors     how many of the first so many acceptors pass a test
+--     isMajority         whether so many of so many acceptors are a majority
+--     isQuorum           whether the acceptors of the plan that pass a test are a majority
+-- Assumes nothing.
+pub mod Laws
+use Prim.Native.Nat.{ℕ, zero, suc, _+_, _*_}
+use mathlib.Core.Bool.{Bool, cond}
+use lib.Dec.{ltb}
+use Rattle.message.specs.declared.Plan.{Plan}
+
+unfoldable pub countAcceptors : ℕ → (ℕ → Bool) → ℕ
+countAcceptors zero test = 0
+countAcceptors (suc total) test = cond (test 0) 1 0 + countAcceptors total (λ a. test (suc a))
+
+unfoldable pub isMajority : ℕ → ℕ → Bool
+isMajority total size = ltb total (2 * size)
+
+unfoldable pub isQuorum : Plan → (ℕ → Bool) → Bool
+isQuorum p test = isMajority (p .acceptors) (countAcceptors (p .acceptors) test)

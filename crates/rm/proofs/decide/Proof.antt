@@ -1,0 +1,26 @@
+-- `rm::decide` meets its contract: each `return` is one case of `rmDecide`. Assumes nothing.
+use Rattle.rm.proofs.Deciding.{decide-event, decide-kind, decide-prepare, decide-abort, decide-receive}
+use Rattle.message.proofs.Guards.{passed, failed}
+use borrow.Author.Needs.{needs}
+use Rattle.rm.proofs.decide.Statement.{statement}
+use Rattle.rm.proofs.decide.Tie as tie
+
+pub decide-spec : {M : Type 1} → statement M
+decide-spec =
+    tie.close
+    (tie.spec
+    (λ c κs. tt)
+    (λ c. decide-event _ _ _ _ (failed (c .before .is-event .ensures) (c .if1 .taken)))
+    (λ c κs. tt)
+    (λ c. decide-kind _ _ _ _ (passed (c .before .before .before .is-event .ensures) (c .before .before .if1 .left)) _ (c .before .byte-at .ensures) (c .if2 .taken))
+    (λ c κs. tt)
+    (λ c. search needs)
+    (λ c κs. tt)
+    (λ c κs. tt)
+    (λ c. decide-prepare _ _ _ _ (passed (c .before .before .before .before .before .before .before .is-event .ensures) (c .before .before .before .before .before .before .if1 .left)) _ (c .before .before .before .before .before .byte-at .ensures) (c .before .before .before .before .if2 .left) _ (c .before .before .before .byte-at2 .ensures) _ (c .before .before .byte-at3 .ensures) _ (c .before .if3 .taken) (c .choose .ensures))
+    (λ c κs. tt)
+    (λ c. decide-abort _ _ _ _ (passed (c .before .before .before .before .before .before .before .before .is-event .ensures) (c .before .before .before .before .before .before .before .if1 .left)) _ (c .before .before .before .before .before .before .byte-at .ensures) (c .before .before .before .before .before .if2 .left) _ (c .before .before .before .before .byte-at2 .ensures) _ (c .before .before .before .byte-at3 .ensures) _ (c .before .before .if3 .left) (c .before .if4 .taken) (c .choose2 .ensures))
+    (λ c κs. tt)
+    (λ c κs. tt)
+    (λ c κs. tt)
+    (λ c. decide-receive _ _ _ _ (passed (c .before .before .before .before .before .before .before .before .before .before .is-event .ensures) (c .before .before .before .before .before .before .before .before .before .if1 .left)) _ (c .before .before .before .before .before .before .before .before .byte-at .ensures) (c .before .before .before .before .before .before .before .if2 .left) _ (c .before .before .before .before .before .before .byte-at2 .ensures) _ (c .before .before .before .before .before .byte-at3 .ensures) _ (c .before .before .before .before .if3 .left) (c .before .before .before .if4 .left) _ (c .before .before .slot-number .ensures) _ (c .before .peek-slot .ensures) (c .receive .ensures)))

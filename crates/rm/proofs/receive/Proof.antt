@@ -1,0 +1,18 @@
+-- `rm::receive` meets its contract: each arm says which slot it is. Assumes nothing.
+use Rattle.rm.specs.Rm.{rmReceive}
+use borrow.Author.Needs.{needs}
+use Rattle.rm.proofs.receive.Statement.{statement}
+use Rattle.rm.proofs.receive.Tie as tie
+
+pub receive-spec : {M : Type 1} → statement M
+unfolding rmReceive
+receive-spec =
+    tie.close
+    (tie.spec
+    (λ c. search needs)
+    (λ c. search needs)
+    (λ c κs. tt)
+    (λ c. search needs)
+    (λ c. rw (c .enum-told .given .1))
+    (λ c. rw (c .before .before .slot .given .1) (c .receive-message .ensures))
+    (λ c. rw (c .enum-told2 .given .1)))

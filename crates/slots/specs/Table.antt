@@ -1,0 +1,104 @@
+-- Slot tables: N, or one inbox (document 01, "The plan and four tables"; rows 2, 5 and 6 of "Refusals by place").
+--     maxSlots, isTableLength    how many bytes a table may have
+--     slots                      a table's slots, in order
+--     isZero, readSlot           what one slot holds: nothing, a message followed by zeros, or neither
+--     readTable, isTable         what all slots hold; whether none is bad and used slots come first
+--     messages                   the messages in a table, in order
+--     tableOf                    the table of so many slots that holds these messages
+-- Its laws are in Table/Laws.antt, and what a judged table holds in Table/Holds.antt. Assumes nothing.
+pub mod Laws
+pub mod Holds
+use Prim.Native.Nat.{ℕ, zero, suc, _-_, _/_, _%_}
+use mathlib.Core.Bool.{Bool, true, false, _&&_, cond}
+use mathlib.Core.List.{List, [], _∷_, _++_, map}
+use lib.Dec.{leb, eqb}
+use lib.ListN.{length, getD, take, drop, replicate}
+use Rattle.message.specs.declared.Plan.{Plan}
+use Rattle.message.specs.declared.Message.{Message}
+use Rattle.message.specs.Outcome.{Outcome, accepted, refused}
+use Rattle.message.specs.Form as Form
+use Rattle.message.specs.Codec.{readMessage}
+use Rattle.slots.specs.All.{all}
+use Rattle.slots.specs.declared.Slot.{Slot}
+use Rattle.slots.specs.declared.Slot.the-variants.{Unused, Used, Bad}
+
+-- the bytes of a slot
+abbrev pub slotSize : ℕ
+slotSize = Form.slotSize
+
+abbrev pub maxSlots : ℕ
+maxSlots = 1024
+
+-- whole slots, at most 1,024
+unfoldable pub isTableLength : ℕ → Bool
+isTableLength len = eqb (len % slotSize) 0 && leb (len / slotSize) maxSlots
+
+-- the first `count` slots
+unfoldable pub slotsUpTo : ℕ → List ℕ → List (List ℕ)
+slotsUpTo zero t = []
+slotsUpTo (suc count) t = take slotSize t ∷ slotsUpTo count (drop slotSize t)
+
+-- the slots of a table
+unfoldable pub slots : List ℕ → List (List ℕ)
+slots t = slotsUpTo (length t / slotSize) t
+
+-- zeros alone
+unfoldable pub isZero : List ℕ → Bool
+isZero = all (λ x. eqb x 0)
+
+-- a readable message with zeros after it, or a bad slot
+abbrev pub usedSlot : Outcome Message → Bool → Slot
+usedSlot (refused number) zeros = Bad
+usedSlot (accepted m) true = Used m
+usedSlot (accepted m) false = Bad
+
+-- an unused slot is zeros alone; in a used one the message ends where its map says
+unfoldable pub readSlot : Plan → List ℕ → Slot
+readSlot p s =
+    cond (isZero s) Unused
+    (usedSlot (readMessage p (take (Form.mapLength (getD s 0 0)) s)) (isZero (drop (Form.mapLength (getD s 0 0)) s)))
+
+unfoldable pub readTable : Plan → List ℕ → List Slot
+readTable p t = map (readSlot p) (slots t)
+
+unfoldable pub allUnused : List Slot → Bool
+allUnused [] = true
+allUnused (Unused ∷ rest) = allUnused rest
+allUnused (Used m ∷ rest) = false
+allUnused (Bad ∷ rest) = false
+
+-- no bad slot, and no used one after an unused one
+unfoldable pub isOrdered : List Slot → Bool
+isOrdered [] = true
+isOrdered (Unused ∷ rest) = allUnused rest
+isOrdered (Used m ∷ rest) = isOrdered rest
+isOrdered (Bad ∷ rest) = false
+
+-- a table of rows 5 and 6
+unfoldable pub isTable : Plan → List ℕ → Bool
+isTable p t = isOrdered (readTable p t)
+
+-- how many slots at the start are used
+unfoldable pub leadingUsed : List Slot → ℕ
+leadingUsed [] = 0
+leadingUsed (Unused ∷ rest) = 0
+leadingUsed (Used m ∷ rest) = suc (leadingUsed rest)
+leadingUsed (Bad ∷ rest) = 0
+
+-- the messages in the used slots
+unfoldable pub usedMessages : List Slot → List Message
+usedMessages [] = []
+usedMessages (Unused ∷ rest) = usedMessages rest
+usedMessages (Used m ∷ rest) = m ∷ usedMessages rest
+usedMessages (Bad ∷ rest) = usedMessages rest
+
+unfoldable pub messages : Plan → List ℕ → List Message
+messages p t = usedMessages (readTable p t)
+
+unfoldable pub joinSlots : List (List ℕ) → List ℕ
+joinSlots [] = []
+joinSlots (s ∷ ss) = s ++ joinSlots ss
+
+-- the table of `count` slots that holds these messages: their slots, then unused ones
+unfoldable pub tableOf : ℕ → List Message → List ℕ
+tableOf count ms = joinSlots (map Form.slotOf ms ++ replicate (count - length ms) (replicate slotSize 0))

@@ -1,0 +1,234 @@
+-- What a judged table holds.
+--     allInRange             all of these messages are in range
+--     Holds                  a table of `room` slots holds these messages
+--     holds-table            a table that was judged well formed holds its messages
+--     table-holds            a table that holds messages is well formed, and they are its messages
+--     length-tableOf, length-holds, slots-tableOf, read-holding     its length and its slots
+-- Assumes nothing.
+use Prim.Native.Nat.{ℕ, zero, suc, _+_, _-_, _*_, _/_, _%_, _≤_, zero-le, suc-le-suc}
+use mathlib.Core.Bool.{Bool, true, false, _&&_, cond, false≢true}
+use mathlib.Core.List.{List, [], _∷_, _++_, map}
+use mathlib.Core.Path.{_≡_, refl, sym, _∙_, ap, ap₂}
+use native.Mathlib.Nat.{le-of-eq, sub-zero, suc-sub-suc}
+use native.Mathlib.Omega.{arith}
+use lib.ListN.{length, getD, take, drop, replicate, length-append, length-replicate, length-map, length-drop, take-append-drop}
+use lib.Seq.{take-all, take-at, drop-at, length-take-le}
+use lib.Dec.{eqb, lit≤}
+use borrow.Author.Tests.{ne-eqb}
+use Rattle.message.specs.declared.Plan.{Plan}
+use Rattle.message.specs.declared.Message.{Message}
+use Rattle.message.specs.Outcome.{Outcome, accepted, refused}
+use Rattle.message.specs.Plan.{isPlan}
+use Rattle.message.specs.Form.{messageLength, slotOf, mapLength, isInRange}
+use Rattle.message.specs.Form.Laws.{messageLength-length, mapLength-bound, mapLength-bytesOf, first-bytesOf, length-slotOf, first-slotOf, take-slotOf, drop-slotOf}
+use Rattle.message.specs.Codec.{readMessage}
+use Rattle.message.specs.Codec.Laws.{readMessage-form, readMessage-bytesOf}
+use Rattle.slots.specs.declared.Slot.{Slot}
+use Rattle.slots.specs.declared.Slot.the-variants.{Unused, Used, Bad}
+use Rattle.slots.specs.Table.{slotSize, slotsUpTo, slots, isZero, usedSlot, readSlot, readTable, isTable, isOrdered, allUnused, usedMessages, messages, joinSlots, tableOf}
+use Rattle.slots.specs.All.{all}
+use Rattle.message.specs.Outcome.Laws.{both}
+use Rattle.slots.specs.All.Laws.{all-stop}
+use Rattle.slots.specs.Table.Laws.{isZero-replicate, isZero-form, length-slotsUpTo, joinSlots-slotsUpTo, readSlot-unused, readSlot-used}
+
+-- all of these messages are in range
+unfoldable pub allInRange : Plan → List Message → Bool
+allInRange p [] = true
+allInRange p (m ∷ ms) = isInRange p m && allInRange p ms
+
+abbrev pub zeroSlot : List ℕ
+zeroSlot = replicate slotSize 0
+
+-- a used slot is its message's slot
+used-form : (p : Plan) (s : List ℕ) (m : Message) → length s ≡ slotSize → readMessage p (take (mapLength (getD s 0 0)) s) ≡ accepted m → isZero (drop (mapLength (getD s 0 0)) s) ≡ true
+    → (isInRange p m ≡ true) × (s ≡ slotOf m)
+unfolding slotOf
+used-form p s m n e z =
+    let len : ℕ = mapLength (getD s 0 0) in
+    let f = readMessage-form p (take len s) m e in
+    let short : len ≤ length s = rw n (mapLength-bound _) in
+    let len-is : messageLength m ≡ len = sym (messageLength-length m) ∙ ap length (sym (f .bytes-form)) ∙ length-take-le len s short in
+    let left : length (drop len s) ≡ slotSize - messageLength m = length-drop len s ∙ ap₂ _-_ n (sym len-is) in
+    let rest : drop len s ≡ replicate (slotSize - messageLength m) 0 = isZero-form (drop len s) z ∙ ap (λ (k : ℕ). replicate k 0) left in
+    (f .inRange, sym (take-append-drop len s) ∙ ap₂ (λ (a b : List ℕ). a ++ b) (f .bytes-form) rest)
+
+-- a slot is unused and zeros, or used and the slot of a message in range, or bad
+data SlotCase (p : Plan) (s : List ℕ) : Slot → Type 0 where
+  unused : s ≡ zeroSlot → SlotCase p s Unused
+  used : (m : Message) → isInRange p m ≡ true → s ≡ slotOf m → SlotCase p s (Used m)
+  bad : SlotCase p s Bad
+
+slotCase : (p : Plan) (s : List ℕ) → length s ≡ slotSize → SlotCase p s (readSlot p s)
+unfolding readSlot
+slotCase p s n = go (isZero s) _ _ refl refl refl
+  where
+    go : (z : Bool) (o : Outcome Message) (r : Bool) → isZero s ≡ z → readMessage p (take (mapLength (getD s 0 0)) s) ≡ o → isZero (drop (mapLength (getD s 0 0)) s) ≡ r
+        → SlotCase p s (cond z Unused (usedSlot o r))
+    go true o r z e k = unused (isZero-form s z ∙ ap (λ (j : ℕ). replicate j 0) n)
+    go false (refused number) r z e k = bad
+    go false (accepted m) true z e k = let u = used-form p s m n e k in used m (u .0) (u .1)
+    go false (accepted m) false z e k = bad
+
+-- slots of a slot's size
+abbrev pub AllSized : List (List ℕ) → Type 0
+AllSized [] = Unit {0}
+AllSized (s ∷ ss) = (length s ≡ slotSize) × AllSized ss
+
+sized-slotsUpTo : (n : ℕ) (t : List ℕ) → n * slotSize ≤ length t → AllSized (slotsUpTo n t)
+unfolding slotsUpTo
+sized-slotsUpTo zero t h = tt
+sized-slotsUpTo (suc n) t h = (length-take-le slotSize t (omega arith), sized-slotsUpTo n (drop slotSize t) (rw (length-drop slotSize t) (omega arith)))
+
+-- slots that hold these messages, and are unused after them
+record SlotsHold (p : Plan) (ss : List (List ℕ)) (ms : List Message) : Type 0 where
+  pub form : ss ≡ map slotOf ms ++ replicate (length ss - length ms) zeroSlot
+  pub room : length ms ≤ length ss
+  pub inRange : allInRange p ms ≡ true
+
+unused-none : (l : List Slot) → allUnused l ≡ true → (isOrdered l ≡ true) × (usedMessages l ≡ [])
+unfolding allUnused isOrdered usedMessages
+unused-none [] e = (refl, refl)
+unused-none (Unused ∷ l) e = (e, unused-none l e .1)
+unused-none (Used m ∷ l) e = absurd (false≢true e)
+unused-none (Bad ∷ l) e = absurd (false≢true e)
+
+module _ (p : Plan) (s : List ℕ) (ss : List (List ℕ)) (l : List Slot) (rest : isOrdered l ≡ true → SlotsHold p ss (usedMessages l)) where
+  hold-cons : (k : Slot) → SlotCase p s k → isOrdered (k ∷ l) ≡ true → SlotsHold p (s ∷ ss) (usedMessages (k ∷ l))
+  unfolding isOrdered usedMessages allInRange
+  hold-cons k bad o = absurd (false≢true o)
+  hold-cons k (used m i e) o =
+      let r = rest o in
+      record {
+        form = ap₂ (λ (a : List ℕ) (b : List (List ℕ)). a ∷ b) e (r .form ∙ rw suc-sub-suc);
+        room = suc-le-suc (r .room);
+        inRange = rw i (r .inRange);
+      }
+  hold-cons k (unused e) o =
+      let u = unused-none l o in
+      let r = rest (u .0) in
+      let none : SlotsHold p ss [] = rw (u .1) at r in
+      rw (u .1)
+      (record {
+        form = rw sub-zero (ap₂ (λ (a : List ℕ) (b : List (List ℕ)). a ∷ b) e (rw sub-zero at (none .form)));
+        room = zero-le;
+        inRange = refl;
+      })
+
+slots-hold : (p : Plan) (ss : List (List ℕ)) → AllSized ss → isOrdered (map (readSlot p) ss) ≡ true → SlotsHold p ss (usedMessages (map (readSlot p) ss))
+unfolding usedMessages allInRange
+slots-hold p [] sized o = record { form = refl; room = zero-le; inRange = refl }
+slots-hold p (s ∷ ss) sized o =
+    hold-cons p s ss (map (readSlot p) ss) (slots-hold p ss (sized .1)) (readSlot p s) (slotCase p s (sized .0)) o
+
+-- a table of `room` slots holds these messages
+pub record Holds (p : Plan) (room : ℕ) (ms : List Message) (t : List ℕ) : Type 0 where
+  pub form : t ≡ tableOf room ms
+  pub fits : length ms ≤ room
+  pub inRange : allInRange p ms ≡ true
+
+pub holds-table : (p : Plan) (t : List ℕ) → length t % slotSize ≡ 0 → isTable p t ≡ true → Holds p (length t / slotSize) (messages p t) t
+unfolding isTable messages readTable slots tableOf
+holds-table p t w o =
+    let n : ℕ = length t / slotSize in
+    let whole : n * slotSize ≡ length t = omega arith in
+    let h = slots-hold p (slotsUpTo n t) (sized-slotsUpTo n t (le-of-eq whole)) o in
+    record {
+      form = sym (joinSlots-slotsUpTo n t ∙ take-all _ t (le-of-eq (sym whole))) ∙ ap joinSlots (h .form ∙ rw (length-slotsUpTo n t));
+      fits = rw (length-slotsUpTo n t) at (h .room);
+      inRange = h .inRange;
+    }
+
+-- slots put together and taken apart again
+pub length-joinSlots : (ss : List (List ℕ)) → AllSized ss → length (joinSlots ss) ≡ length ss * slotSize
+unfolding joinSlots
+length-joinSlots [] sized = refl
+length-joinSlots (s ∷ ss) sized = length-append s (joinSlots ss) ∙ ap₂ _+_ (sized .0) (length-joinSlots ss (sized .1)) ∙ omega arith
+
+slotsUpTo-joinSlots : (ss : List (List ℕ)) → AllSized ss → slotsUpTo (length ss) (joinSlots ss) ≡ ss
+unfolding joinSlots slotsUpTo
+slotsUpTo-joinSlots [] sized = refl
+slotsUpTo-joinSlots (s ∷ ss) sized =
+    ap₂ (λ (a : List ℕ) (b : List (List ℕ)). a ∷ b)
+    (take-at s (joinSlots ss) slotSize (sized .0))
+    (ap (slotsUpTo (length ss)) (drop-at s (joinSlots ss) slotSize (sized .0)) ∙ slotsUpTo-joinSlots ss (sized .1))
+
+slots-joinSlots : (ss : List (List ℕ)) → AllSized ss → slots (joinSlots ss) ≡ ss
+unfolding slots
+slots-joinSlots ss sized =
+    let n : length (joinSlots ss) / slotSize ≡ length ss = omega (arith, length-joinSlots ss sized) in
+    ap (λ (k : ℕ). slotsUpTo k (joinSlots ss)) n ∙ slotsUpTo-joinSlots ss sized
+
+pub sized-holding : (ms : List Message) (k : ℕ) → AllSized (map slotOf ms ++ replicate k zeroSlot)
+sized-holding [] zero = tt
+sized-holding [] (suc k) = (refl, sized-holding [] k)
+sized-holding (m ∷ ms) k = (length-slotOf m, sized-holding ms k)
+
+length-holding : (ms : List Message) (k : ℕ) → length (map slotOf ms ++ replicate k zeroSlot) ≡ length ms + k
+length-holding ms k = length-append (map slotOf ms) _ ∙ ap₂ _+_ (length-map ms slotOf) (length-replicate k zeroSlot)
+
+pub length-tableOf : (room : ℕ) (ms : List Message) → length ms ≤ room → length (tableOf room ms) ≡ room * slotSize
+unfolding tableOf
+length-tableOf room ms h =
+    let n : length ms + (room - length ms) ≡ room = omega arith in
+    length-joinSlots _ (sized-holding ms (room - length ms)) ∙ ap (λ (k : ℕ). k * slotSize) (length-holding ms (room - length ms) ∙ n)
+
+pub slots-tableOf : (room : ℕ) (ms : List Message) → slots (tableOf room ms) ≡ map slotOf ms ++ replicate (room - length ms) zeroSlot
+unfolding tableOf
+slots-tableOf room ms = slots-joinSlots _ (sized-holding ms (room - length ms))
+
+-- what a rule of slots makes of a table, if it gives a message for its slot and nothing for zeros
+module _ (read : List ℕ → Slot) (none : read zeroSlot ≡ Unused) where
+  read-unused : (k : ℕ) → map read (replicate k zeroSlot) ≡ replicate k Unused
+  read-unused zero = refl
+  read-unused (suc k) = ap₂ (λ (a : Slot) (b : List Slot). a ∷ b) none (read-unused k)
+
+  pub read-holding : (p : Plan) (ms : List Message) → ((m : Message) → isInRange p m ≡ true → read (slotOf m) ≡ Used m) → allInRange p ms ≡ true → (k : ℕ)
+      → map read (map slotOf ms ++ replicate k zeroSlot) ≡ map Used ms ++ replicate k Unused
+  unfolding allInRange
+  read-holding p [] one i k = read-unused k
+  read-holding p (m ∷ ms) one i k =
+      let b = both (isInRange p m) (allInRange p ms) i in
+      ap₂ (λ (a : Slot) (b : List Slot). a ∷ b) (one m (b .0)) (read-holding p ms one (b .1) k)
+
+isZero-slotOf : (m : Message) → isZero (slotOf m) ≡ false
+unfolding isZero
+isZero-slotOf m = all-stop (λ x. eqb x 0) (slotOf m) 0 (rw (length-slotOf m) (lit≤ tt)) (ne-eqb _ _ (λ e. first-bytesOf m (sym (first-slotOf m) ∙ e)))
+
+read-slotOf : (p : Plan) → isPlan p ≡ true → (m : Message) → isInRange p m ≡ true → readSlot p (slotOf m) ≡ Used m
+read-slotOf p h m i =
+    let len : mapLength (getD (slotOf m) 0 0) ≡ messageLength m = ap mapLength (first-slotOf m) ∙ mapLength-bytesOf m in
+    readSlot-used p (slotOf m) (isZero-slotOf m) m
+    (rw (len, take-slotOf m) (readMessage-bytesOf p m h i))
+    (rw (len, drop-slotOf m) (isZero-replicate (slotSize - messageLength m)))
+
+-- the slots of a table that holds messages, as they are read
+holding-ordered : (ms : List Message) (k : ℕ) → isOrdered (map Used ms ++ replicate k Unused) ≡ true
+unfolding isOrdered allUnused
+holding-ordered [] zero = refl
+holding-ordered [] (suc k) = all k
+  where
+    all : (k : ℕ) → allUnused (replicate k Unused) ≡ true
+    all zero = refl
+    all (suc k) = all k
+holding-ordered (m ∷ ms) k = holding-ordered ms k
+
+holding-messages : (ms : List Message) (k : ℕ) → usedMessages (map Used ms ++ replicate k Unused) ≡ ms
+unfolding usedMessages
+holding-messages [] zero = refl
+holding-messages [] (suc k) = holding-messages [] k
+holding-messages (m ∷ ms) k = ap (λ (r : List Message). m ∷ r) (holding-messages ms k)
+
+module _ (p : Plan) (room : ℕ) (ms : List Message) (t : List ℕ) (h : Holds p room ms t) where
+  read-table : isPlan p ≡ true → readTable p t ≡ map Used ms ++ replicate (room - length ms) Unused
+  unfolding readTable isZero all
+  read-table plan =
+      ap (λ (u : List ℕ). map (readSlot p) (slots u)) (h .form)
+      ∙ ap (map (readSlot p)) (slots-tableOf room ms)
+      ∙ read-holding (readSlot p) (readSlot-unused p zeroSlot refl) p ms (read-slotOf p plan) (h .inRange) (room - length ms)
+
+  pub table-holds : isPlan p ≡ true → (isTable p t ≡ true) × (messages p t ≡ ms)
+  unfolding isTable messages
+  table-holds plan = (ap isOrdered (read-table plan) ∙ holding-ordered ms (room - length ms), ap usedMessages (read-table plan) ∙ holding-messages ms (room - length ms))
+
+  pub length-holds : length t ≡ room * slotSize
+  length-holds = ap length (h .form) ∙ length-tableOf room ms (h .fits)

@@ -1,0 +1,177 @@
+-- The laws of slot tables.
+--     isZero-replicate, isZero-form                   zeros
+--     length-slotsUpTo, getD-slotsUpTo, drop-slotsUpTo, joinSlots-slotsUpTo      slots by place
+--     readSlot-unused, -refused, -rubbish, -used      a slot case by case
+--     slotAt, slotAt-end, length-readTable            the slot at a place
+--     leadingUsed-step, -unused, -bad, -end, -bound                   counting the used slots at the start
+-- Assumes nothing.
+use Prim.Native.Nat.{ℕ, zero, suc, _+_, _-_, _*_, _/_, _≤_, _<_, zero-le, suc-le-suc}
+use mathlib.Core.Bool.{Bool, true, false, _&&_, cond, and-assoc, false≢true}
+use mathlib.Core.List.{List, [], _∷_, _++_, map}
+use mathlib.Core.Path.{_≡_, refl, sym, _∙_, ap, ap₂}
+use native.Mathlib.Nat.{add-zero, add-sub-cancel-left, not-suc-le-zero, sub-zero, suc-sub-suc}
+use native.Mathlib.Numerals.{add-one}
+use native.Mathlib.Omega.{arith}
+use lib.Dec.{eqb}
+use lib.ListN.{length, getD, take, drop, replicate, length-replicate, length-drop, drop-of-length-le, length-map, List·getD-map, List·getD-eq-default}
+use lib.Seq.{drop-cons, drop-drop, take-add, drop-length}
+use borrow.Author.Tests.{eq-eqb, ne-eqb, eqb-true}
+use Rattle.message.specs.declared.Plan.{Plan}
+use Rattle.message.specs.declared.Message.{Message}
+use Rattle.message.specs.Outcome.{Outcome, accepted, refused}
+use Rattle.message.specs.Form.{mapLength}
+use Rattle.message.specs.Codec.{readMessage}
+use Rattle.slots.specs.declared.Slot.{Slot}
+use Rattle.slots.specs.declared.Slot.the-variants.{Unused, Used, Bad}
+use Rattle.slots.specs.All.{all}
+use Rattle.message.specs.Outcome.Laws.{both}
+use Rattle.slots.specs.All.Laws.{all-append}
+use Rattle.slots.specs.Table.{slotSize, slotsUpTo, slots, isZero, usedSlot, readSlot, readTable, allUnused, isOrdered, isTable, leadingUsed, joinSlots}
+
+pub isZero-replicate : (n : ℕ) → isZero (replicate n 0) ≡ true
+unfolding isZero all
+isZero-replicate zero = refl
+isZero-replicate (suc n) = isZero-replicate n
+
+pub isZero-form : (l : List ℕ) → isZero l ≡ true → l ≡ replicate (length l) 0
+unfolding isZero all
+isZero-form [] e = refl
+isZero-form (x ∷ l) e = let b = both _ _ e in ap₂ (λ (y : ℕ) (r : List ℕ). y ∷ r) (eqb-true x 0 (b .0)) (isZero-form l (b .1))
+
+pub length-slotsUpTo : (n : ℕ) (t : List ℕ) → length (slotsUpTo n t) ≡ n
+unfolding slotsUpTo
+length-slotsUpTo zero t = refl
+length-slotsUpTo (suc n) t = ap suc (length-slotsUpTo n (drop slotSize t))
+
+times-suc : (k : ℕ) → suc k * slotSize ≡ slotSize + k * slotSize
+times-suc k = omega arith
+
+times-sub : (m u : ℕ) → (m - u) * slotSize ≡ m * slotSize - u * slotSize
+times-sub m u = omega arith
+
+pub getD-slotsUpTo : (n k : ℕ) (t : List ℕ) → k < n → getD (slotsUpTo n t) k [] ≡ take slotSize (drop (k * slotSize) t)
+unfolding slotsUpTo
+getD-slotsUpTo zero k t h = absurd (not-suc-le-zero h)
+getD-slotsUpTo (suc n) zero t h = refl
+getD-slotsUpTo (suc n) (suc k) t h = getD-slotsUpTo n k (drop slotSize t) (omega arith) ∙ rw (drop-drop, ← times-suc k)
+
+pub drop-slotsUpTo : (n u : ℕ) (t : List ℕ) → u ≤ n → drop u (slotsUpTo n t) ≡ slotsUpTo (n - u) (drop (u * slotSize) t)
+unfolding slotsUpTo
+drop-slotsUpTo n zero t h = rw sub-zero
+drop-slotsUpTo zero (suc u) t h = absurd (not-suc-le-zero h)
+drop-slotsUpTo (suc n) (suc u) t h =
+    drop-slotsUpTo n u (drop slotSize t) (omega arith)
+    ∙ rw (drop-drop, ← times-suc u, suc-sub-suc)
+
+pub joinSlots-slotsUpTo : (n : ℕ) (t : List ℕ) → joinSlots (slotsUpTo n t) ≡ take (n * slotSize) t
+unfolding slotsUpTo joinSlots
+joinSlots-slotsUpTo zero t = refl
+joinSlots-slotsUpTo (suc n) t = ap (λ (r : List ℕ). take slotSize t ++ r) (joinSlots-slotsUpTo n (drop slotSize t)) ∙ rw (times-suc n, take-add)
+
+-- a slot case by case
+module _ (p : Plan) (s : List ℕ) where
+  pub readSlot-unused : isZero s ≡ true → readSlot p s ≡ Unused
+  unfolding readSlot
+  readSlot-unused z = rw z
+
+  module _ (z : isZero s ≡ false) where
+    pub readSlot-refused : (k : ℕ) → readMessage p (take (mapLength (getD s 0 0)) s) ≡ refused k → readSlot p s ≡ Bad
+    unfolding readSlot
+    readSlot-refused k e = rw (z, e)
+
+    module _ (m : Message) (e : readMessage p (take (mapLength (getD s 0 0)) s) ≡ accepted m) where
+      pub readSlot-rubbish : isZero (drop (mapLength (getD s 0 0)) s) ≡ false → readSlot p s ≡ Bad
+      unfolding readSlot
+      readSlot-rubbish r = rw (z, e, r)
+
+      pub readSlot-used : isZero (drop (mapLength (getD s 0 0)) s) ≡ true → readSlot p s ≡ Used m
+      unfolding readSlot
+      readSlot-used r = rw (z, e, r)
+
+pub length-readTable : (p : Plan) (t : List ℕ) → length (readTable p t) ≡ length t / slotSize
+unfolding readTable slots
+length-readTable p t = length-map (slotsUpTo (length t / slotSize) t) (readSlot p) ∙ length-slotsUpTo _ t
+
+-- the slot at a place, read by any rule that takes nothing for an unused slot, and past the end
+module _ (read : List ℕ → Slot) (none : read [] ≡ Unused) (t : List ℕ) (k : ℕ) where
+  pub slotAt : k < length t / slotSize → read (take (k * slotSize + slotSize - k * slotSize) (drop (k * slotSize) t)) ≡ getD (map read (slots t)) k Unused
+  unfolding slots
+  slotAt h =
+      rw (add-sub-cancel-left (k * slotSize) slotSize)
+      (ap read (sym (getD-slotsUpTo _ k t h)) ∙ sym (rw none at (List·getD-map read (slotsUpTo (length t / slotSize) t) k [])))
+
+  pub slotAt-end : length t / slotSize ≤ k → Unused ≡ getD (map read (slots t)) k Unused
+  unfolding slots
+  slotAt-end h = sym (List·getD-eq-default (map read (slotsUpTo (length t / slotSize) t)) Unused (rw (length-map (slotsUpTo (length t / slotSize) t) read, length-slotsUpTo (length t / slotSize) t) h))
+
+-- counting the used slots at the start: one more, or no more
+module _ (l : List Slot) (k : ℕ) (h : k < length l) where
+  pub leadingUsed-step : (m : Message) → getD l k Unused ≡ Used m → k + 1 + leadingUsed (drop (k + 1) l) ≡ k + leadingUsed (drop k l)
+  unfolding leadingUsed
+  leadingUsed-step m e = rw (drop-cons l k Unused h, e, add-one k) (omega arith)
+
+  pub leadingUsed-unused : getD l k Unused ≡ Unused → k + leadingUsed (drop k l) ≡ k
+  unfolding leadingUsed
+  leadingUsed-unused e = rw (drop-cons l k Unused h, e) (add-zero k)
+
+  pub leadingUsed-bad : getD l k Unused ≡ Bad → k + leadingUsed (drop k l) ≡ k
+  unfolding leadingUsed
+  leadingUsed-bad e = rw (drop-cons l k Unused h, e) (add-zero k)
+
+pub leadingUsed-end : (l : List Slot) (k : ℕ) → length l ≤ k → k + leadingUsed (drop k l) ≡ k
+unfolding leadingUsed
+leadingUsed-end l k h = rw (drop-of-length-le l h, add-zero)
+
+pub leadingUsed-bound : (l : List Slot) → leadingUsed l ≤ length l
+unfolding leadingUsed
+leadingUsed-bound [] = zero-le
+leadingUsed-bound (Unused ∷ l) = zero-le
+leadingUsed-bound (Used m ∷ l) = suc-le-suc (leadingUsed-bound l)
+leadingUsed-bound (Bad ∷ l) = zero-le
+
+-- so the leading used slots are within the table
+pub leadingUsed-readTable : (p : Plan) (t : List ℕ) (u : ℕ) → u ≡ leadingUsed (readTable p t) → u ≤ length t / slotSize
+leadingUsed-readTable p t u e = rw (e, ← length-readTable p t) (leadingUsed-bound _)
+
+-- used slots come first exactly when no slot after the leading ones is in use
+isOrdered-leading : (l : List Slot) → isOrdered l ≡ allUnused (drop (leadingUsed l) l)
+unfolding isOrdered allUnused leadingUsed
+isOrdered-leading [] = refl
+isOrdered-leading (Unused ∷ l) = refl
+isOrdered-leading (Used m ∷ l) = isOrdered-leading l
+isOrdered-leading (Bad ∷ l) = refl
+
+-- a slot is unused exactly when it is zeros
+allUnused-cons : (p : Plan) (s : List ℕ) (rest : List Slot) → allUnused (readSlot p s ∷ rest) ≡ (isZero s && allUnused rest)
+unfolding readSlot allUnused
+allUnused-cons p s rest = go (isZero s) (readMessage p (take (mapLength (getD s 0 0)) s)) (isZero (drop (mapLength (getD s 0 0)) s))
+  where
+    go : (z : Bool) (o : Outcome Message) (r : Bool) → allUnused (cond z Unused (usedSlot o r) ∷ rest) ≡ (z && allUnused rest)
+    go true o r = refl
+    go false (refused k) r = refl
+    go false (accepted m) true = refl
+    go false (accepted m) false = refl
+
+allUnused-slots : (p : Plan) (ss : List (List ℕ)) → allUnused (map (readSlot p) ss) ≡ isZero (joinSlots ss)
+unfolding joinSlots allUnused isZero all
+allUnused-slots p [] = refl
+allUnused-slots p (s ∷ ss) =
+    allUnused-cons p s (map (readSlot p) ss) ∙ ap (λ (b : Bool). isZero s && b) (allUnused-slots p ss) ∙ sym (all-append (λ x. eqb x 0) s (joinSlots ss))
+
+map-drop : (p : Plan) (u : ℕ) (ss : List (List ℕ)) → drop u (map (readSlot p) ss) ≡ map (readSlot p) (drop u ss)
+map-drop p zero ss = refl
+map-drop p (suc u) [] = refl
+map-drop p (suc u) (s ∷ ss) = map-drop p u ss
+
+-- a table is well formed exactly when all bytes after its leading used slots are zeros
+pub isTable-zero : (p : Plan) (t : List ℕ) (u : ℕ) → u ≡ leadingUsed (readTable p t) → isTable p t ≡ isZero (take (length t / slotSize * slotSize - u * slotSize) (drop (u * slotSize) t))
+unfolding isTable readTable slots
+isTable-zero p t u e =
+    isOrdered-leading _
+    ∙ ap (λ (k : ℕ). allUnused (drop k (map (readSlot p) (slotsUpTo (length t / slotSize) t)))) (sym e)
+    ∙ ap allUnused (map-drop p u _)
+    ∙ allUnused-slots p _
+    ∙ ap isZero
+    (ap joinSlots (drop-slotsUpTo _ u t (leadingUsed-readTable p t u e))
+    ∙ joinSlots-slotsUpTo _ (drop (u * slotSize) t)
+    ∙ ap (λ (k : ℕ). take k (drop (u * slotSize) t)) (times-sub (length t / slotSize) u))
