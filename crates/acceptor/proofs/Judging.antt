@@ -1,48 +1,28 @@
--- From the code's judgement of the plan and the two tables to the rows of `acceptorStep`. Assumes nothing.
-use Prim.Native.Nat.{ℕ, _*_}
-use mathlib.Core.Bool.{true, false}
+-- From the judgement of the plan and both tables to the whole call.
+--     judged-view      where they are sound, the view of N's bytes is the view of its messages
+--     step-sound       so what was then performed is the step
+-- Assumes nothing.
+use Prim.Native.Nat.{ℕ}
 use mathlib.Core.List.{List}
-use mathlib.Core.Path.{_≡_, _∙_, ap}
-use lib.ListN.{length}
-use borrow.Author.Tests.{eq-eqb, ne-eqb, eqb-true}
+use mathlib.Core.Path.{_≡_, sym, _∙_, ap}
 use Rattle.message.specs.declared.Plan.{Plan}
-use Rattle.message.specs.Outcome.{refused, refuseIf}
-use Rattle.message.specs.Plan.{isPlan}
-use Rattle.slots.specs.Table.{isTableLength, isTable}
-use Rattle.message.specs.Outcome.Laws.{both}
-use Rattle.slots.specs.Table.Holds.{holds-table}
-use Rattle.slots.specs.View.{viewBytes}
-use Rattle.slots.specs.View.Laws.{view-holds}
-use Rattle.event.specs.Step.{Step}
-use Rattle.acceptor.specs.Acceptor.{areVotes, acceptorDecide, applied, acceptorStep}
+use Rattle.message.specs.Outcome.{accepted}
+use Rattle.slots.specs.View.{View, viewTable}
+use Rattle.slots.specs.View.Bytes.{viewBytes}
+use Rattle.slots.specs.View.Laws.{view-judged}
+use Rattle.change.specs.Change.{Step, applied}
+use Rattle.change.proofs.Stepping.{step-performed}
+use Rattle.acceptor.specs.Acceptor.Sound.{sound}
+use Rattle.acceptor.specs.Acceptor.{acceptorJudged, acceptorVerdict, acceptorStep}
 
-module _ (p : Plan) (votes network e : List ℕ) where
-  pub judge-plan : isPlan p ≡ false → applied votes network (refused 1) ≡ acceptorStep p votes network e
-  unfolding acceptorStep refuseIf
-  judge-plan h = rw h
+pub judged-view : (p : Plan) (votes network : List ℕ) → accepted tt ≡ acceptorJudged p votes network → viewBytes p network ≡ viewTable p network
+judged-view p votes network e =
+    let s = sound p votes network (sym e) in
+    view-judged p network (s .plan) (s .whole) (s .ordered)
 
-  module _ (h : isPlan p ≡ true) where
-    pub judge-votes-length : (length votes ≡ 3 * (p .rms * p .acceptors) → ⊥) → applied votes network (refused 2) ≡ acceptorStep p votes network e
-    unfolding acceptorStep refuseIf
-    judge-votes-length n = rw (h, ne-eqb _ _ n)
-
-    module _ (n : length votes ≡ 3 * (p .rms * p .acceptors)) where
-      pub judge-network-length : isTableLength (length network) ≡ false → applied votes network (refused 2) ≡ acceptorStep p votes network e
-      unfolding acceptorStep refuseIf
-      judge-network-length l = rw (h, eq-eqb _ _ n, l)
-
-      module _ (l : isTableLength (length network) ≡ true) where
-        pub judge-votes : areVotes votes ≡ false → applied votes network (refused 4) ≡ acceptorStep p votes network e
-        unfolding acceptorStep refuseIf
-        judge-votes s = rw (h, eq-eqb _ _ n, l, s)
-
-        module _ (s : areVotes votes ≡ true) where
-          pub judge-network : isTable p network ≡ false → applied votes network (refused 5) ≡ acceptorStep p votes network e
-          unfolding acceptorStep refuseIf
-          judge-network t = rw (h, eq-eqb _ _ n, l, s, t)
-
-          pub judge-passed : isTable p network ≡ true → (r : Step) → r ≡ applied votes network (acceptorDecide p votes (viewBytes network) e) → r ≡ acceptorStep p votes network e
-          unfolding acceptorStep refuseIf isTableLength
-          judge-passed t r a =
-              rw (h, eq-eqb _ _ n, l, s, t)
-              (a ∙ ap (λ v. applied votes network (acceptorDecide p votes v e)) (view-holds p _ _ network (holds-table p network (eqb-true _ _ (both _ _ l .0)) t)))
+pub step-sound : (p : Plan) (votes network e : List ℕ) → accepted tt ≡ acceptorJudged p votes network
+    → (r : Step) → r ≡ applied p votes network (acceptorVerdict p votes (viewBytes p network) e) → r ≡ acceptorStep p votes network e
+unfolding acceptorStep
+step-sound p votes network e sound r h =
+    step-performed p votes network _ _ sound r
+    (h ∙ ap (λ (v : View). applied p votes network (acceptorVerdict p votes v e)) (judged-view p votes network sound))

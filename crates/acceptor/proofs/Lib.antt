@@ -1,7 +1,5 @@
 -- The proofs that belong to no one function.
---     Deciding   from the code's answers to the cases of `phase1b`, `phase2b` and `acceptorDecide`
---     Acting     from a verdict and the stores to the two tables
---     Judging    from the code's judgement to the rows of `acceptorStep`
+--     Deciding   from the code's answers to the cases of the two actions
+--     Judging    from the judgement of the plan and both tables to the whole call
 pub mod Deciding
-pub mod Acting
 pub mod Judging

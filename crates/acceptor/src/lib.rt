@@ -1,49 +1,24 @@
 // The step of an acceptor, kind 3, as a call by itself: Phase1b and Phase2b of document 001. It is lent Q and N.
 //
-//     Change, Verdict, decide     what an event would change, or its refusal, from tables that were judged before
-//     act                         decides and stores, on tables that were judged before
-//     step                        judges the plan and both tables, then acts
+//     are_votes              row 4 of "Refusals by place"
+//     judge                  the plan and both tables
+//     evaluate, perform      what an event comes to, and that stored (see the crate change)
+//     step                   the whole call
 ghost use mathlib.Core.Path.{_≡_};
-ghost use Prim.Native.Nat.{_+_};
-ghost use lib.ListN.{set};
-ghost use Rattle.message.specs.Outcome.{numberOf};
-ghost use Rattle.slots.specs.View.{viewBytes};
-ghost use Rattle.event.specs.Answer.{answerOutcome};
-ghost use Rattle.event.specs.Step.{Step};
-ghost use Rattle.acceptor.specs.Acceptor.{isVoteState, areVotes, voteOf, voteAt, verdictOutcome, phase1b, phase2b, acceptorReceiveMessage, acceptorReceive, acceptorDecide, applied, acceptorStep};
-use event::Answer;
+ghost use Rattle.slots.specs.View.Bytes.{viewBytes};
+ghost use Rattle.change.specs.Change.{verdictOutcome, judgedOutcome, stepOf, applied};
+ghost use Rattle.acceptor.specs.Acceptor.{isVoteState, areVotes, acceptorJudged, voteOf, voteAt, phase1b, phase2b, acceptorReceive, acceptorVerdict, acceptorStep};
+use change::Answer;
+use change::Change;
+use change::Judged;
+use change::Sent;
+use change::Update;
+use change::Verdict;
 use message::Message;
 use message::Plan;
+use message::Read;
 use message::Vote;
 use slots::Send;
-use slots::Slot;
-use slots::Store;
-
-// What an accepted event changes: the three bytes of one instance and acceptor from `at` on, and what is stored in N.
-pub struct Change {
-    pub at: usize,
-    pub mbal: u8,
-    pub bal: u8,
-    pub val: u8,
-    pub store: Store,
-    pub answer: Answer,
-}
-
-// What an event comes to, decided before anything is stored.
-pub enum Verdict {
-    Accepted(Change),
-    Refused(u8),
-}
-
-// The refusal's number in a verdict, 0 where it is an acceptance.
-pub fn verdict_number(verdict: Verdict) -> u8
-    ensures { λ r. ⌜ r ≡ numberOf (verdictOutcome verdict) ⌝ }
-{
-    match verdict {
-        Verdict::Accepted(_) => 0,
-        Verdict::Refused(number) => number,
-    }
-}
 
 // The vote report of a last vote: none where the value is 0.
 fn vote_of(bal: u8, val: u8) -> Vote
@@ -64,7 +39,7 @@ fn vote_at(plan: Plan, ins: u8, acc: u8) -> usize
 
 // A 1a: 12 unless mbal is below its ballot, 13 without room in N. mbal becomes the ballot, and the old vote is reported.
 fn phase1b_of(plan: Plan, votes: &[u8], network: &[u8], acc: u8, ins: u8, ballot: u8) -> Verdict
-    ensures { λ r. ⌜ verdictOutcome r ≡ phase1b plan (now (votes .entry)) (viewBytes (now (network .entry))) acc ins ballot ⌝ }
+    ensures { λ r. ⌜ verdictOutcome r ≡ phase1b plan (now (votes .entry)) (viewBytes plan (now (network .entry))) acc ins ballot ⌝ }
 {
     let at = vote_at(plan, ins, acc);
     let mbal = message::byte_at(votes, at);
@@ -79,15 +54,17 @@ fn phase1b_of(plan: Plan, votes: &[u8], network: &[u8], acc: u8, ins: u8, ballot
         mbal: ballot,
         vote: vote_of(bal, val),
     };
-    let send = slots::send_message(network, report);
+    let send = slots::send_message(plan, network, report);
     match send {
         Send::Slot { slot, store } => Verdict::Accepted(Change {
-            at,
-            mbal: ballot,
-            bal,
-            val,
-            store,
-            answer: Answer::Sent(slot),
+            table: Update::Vote {
+                at,
+                mbal: ballot,
+                bal,
+                val,
+            },
+            network: store,
+            sent: Sent::Slot(slot),
         }),
         Send::NoRoom => Verdict::Refused(13),
     }
@@ -103,7 +80,7 @@ fn phase2b_of(
     bal: u8,
     val: u8,
 ) -> Verdict
-    ensures { λ r. ⌜ verdictOutcome r ≡ phase2b plan (now (votes .entry)) (viewBytes (now (network .entry))) acc ins bal val ⌝ }
+    ensures { λ r. ⌜ verdictOutcome r ≡ phase2b plan (now (votes .entry)) (viewBytes plan (now (network .entry))) acc ins bal val ⌝ }
 {
     let at = vote_at(plan, ins, acc);
     let mbal = message::byte_at(votes, at);
@@ -111,22 +88,25 @@ fn phase2b_of(
         return Verdict::Refused(12);
     }
     let vote = Message::Phase2b { ins, acc, bal, val };
-    let send = slots::send_message(network, vote);
+    let send = slots::send_message(plan, network, vote);
     match send {
         Send::Slot { slot, store } => Verdict::Accepted(Change {
-            at,
-            mbal: bal,
-            bal,
-            val,
-            store,
-            answer: Answer::Sent(slot),
+            table: Update::Vote {
+                at,
+                mbal: bal,
+                bal,
+                val,
+            },
+            network: store,
+            sent: Sent::Slot(slot),
         }),
         Send::NoRoom => Verdict::Refused(13),
     }
 }
 
-fn receive_message(plan: Plan, votes: &[u8], network: &[u8], acc: u8, m: Message) -> Verdict
-    ensures { λ r. ⌜ verdictOutcome r ≡ acceptorReceiveMessage plan (now (votes .entry)) (viewBytes (now (network .entry))) acc m ⌝ }
+// 9 where the message is neither a 1a nor a 2a.
+fn receive(plan: Plan, votes: &[u8], network: &[u8], acc: u8, m: Message) -> Verdict
+    ensures { λ r. ⌜ verdictOutcome r ≡ acceptorReceive plan (now (votes .entry)) (viewBytes plan (now (network .entry))) acc m ⌝ }
 {
     match m {
         Message::Phase1a { ins, bal } => phase1b_of(plan, votes, network, acc, ins, bal),
@@ -147,60 +127,35 @@ fn receive_message(plan: Plan, votes: &[u8], network: &[u8], acc: u8, m: Message
     }
 }
 
-// 8 where the slot is unused, 9 where it holds neither a 1a nor a 2a.
-fn receive(plan: Plan, votes: &[u8], network: &[u8], acc: u8, slot: Slot) -> Verdict
-    ensures { λ r. ⌜ verdictOutcome r ≡ acceptorReceive plan (now (votes .entry)) (viewBytes (now (network .entry))) acc slot ⌝ }
+// What the event comes to: 1 for the plan, 7 where it is no event of an acceptor, then 8, 9, 12 or 13. The slot's message is taken by the
+// reader. It judges no table: in one that nobody judged the
+// reader may refuse the slot with 15 or 17.
+pub fn evaluate(plan: Plan, votes: &[u8], network: &[u8], event: &[u8]) -> Verdict
+    ensures { λ r. ⌜ verdictOutcome r ≡ acceptorVerdict plan (now (votes .entry)) (viewBytes plan (now (network .entry))) (now (event .entry)) ⌝ }
 {
-    match slot {
-        Slot::Unused => Verdict::Refused(8),
-        Slot::Used(m) => receive_message(plan, votes, network, acc, m),
-        Slot::Bad => Verdict::Refused(8),
+    if !message::is_plan(plan) {
+        return Verdict::Refused(1);
     }
-}
-
-// What the event comes to on tables that were judged before: 7 where it is no event of an acceptor, then 8, 9, 12 or 13.
-pub fn decide(plan: Plan, votes: &[u8], network: &[u8], event: &[u8]) -> Verdict
-    ensures { λ r. ⌜ verdictOutcome r ≡ acceptorDecide plan (now (votes .entry)) (viewBytes (now (network .entry))) (now (event .entry)) ⌝ }
-{
     if !event::is_event(plan, event) {
         return Verdict::Refused(7);
     }
     if message::byte_at(event, 0) != 3 {
         return Verdict::Refused(7);
     }
-    let acc = message::byte_at(event, 1);
-    let slot = slots::peek_slot(network, event::slot_number(event));
-    receive(plan, votes, network, acc, slot)
-}
-
-fn set_vote(votes: &mut [u8], at: usize, mbal: u8, bal: u8, val: u8)
-    ensures { λ _. ⌜ now (votes .exit) ≡ set (set (set (now (votes .entry)) at mbal) (at + 1) bal) (at + 2) val ⌝ }
-{
-    if votes.len() <= at {
-        return;
-    }
-    slots::set_byte(votes, at, mbal);
-    slots::set_byte(votes, at + 1, bal);
-    slots::set_byte(votes, at + 2, val);
-}
-
-// Decides and stores, on tables that were judged before; a refusal changes no byte.
-pub fn act(plan: Plan, votes: &mut [u8], network: &mut [u8], event: &[u8]) -> Answer
-    ensures { λ r. ⌜ _≡_ {A = Step} (record { answer = answerOutcome r; table = now (votes .exit); network = now (network .exit) }) (applied (now (votes .entry)) (now (network .entry)) (acceptorDecide plan (now (votes .entry)) (viewBytes (now (network .entry))) (now (event .entry)))) ⌝ }
-{
-    let verdict = decide(plan, votes, network, event);
-    let Verdict::Accepted(change) = verdict else {
-        return Answer::Refused(verdict_number(verdict));
+    let answer = slots::message_at(plan, network, event::slot_number(event));
+    let Read::Message(m) = answer else {
+        return Verdict::Refused(message::read_refusal(answer));
     };
-    let at = change.at;
-    let mbal = change.mbal;
-    let bal = change.bal;
-    let val = change.val;
-    let store = change.store;
-    let answer = change.answer;
-    set_vote(votes, at, mbal, bal, val);
-    slots::apply_store(network, store);
-    answer
+    receive(plan, votes, network, message::byte_at(event, 1), m)
+}
+
+// Evaluates and stores; a refusal changes no byte. It judges no table.
+pub fn perform(plan: Plan, votes: &mut [u8], network: &mut [u8], event: &[u8]) -> Answer
+    ensures { λ r. ⌜ stepOf r (now (votes .exit)) (now (network .exit)) ≡
+        applied plan (now (votes .entry)) (now (network .entry)) (acceptorVerdict plan (now (votes .entry)) (viewBytes plan (now (network .entry))) (now (event .entry))) ⌝ }
+{
+    let verdict = evaluate(plan, votes, network, event);
+    change::apply(plan, votes, network, verdict)
 }
 
 fn is_vote_state(bal: u8, val: u8) -> bool
@@ -218,7 +173,8 @@ fn is_vote_state(bal: u8, val: u8) -> bool
     true
 }
 
-fn are_votes(votes: &[u8]) -> bool
+// Whether every place of Q is in order: val 1, 2, or 0 with bal 0. Where one is not, 4.
+pub fn are_votes(votes: &[u8]) -> bool
     ensures { λ r. ⌜ r ≡ areVotes (now (votes .entry)) ⌝ }
 {
     let len = votes.len();
@@ -232,24 +188,36 @@ fn are_votes(votes: &[u8]) -> bool
     true
 }
 
-// The step: 1, 2 and 4 for the plan, the lengths and Q, 5 for N, and then as `act`; a refusal changes no byte.
-pub fn step(plan: Plan, votes: &mut [u8], network: &mut [u8], event: &[u8]) -> Answer
-    ensures { λ r. ⌜ _≡_ {A = Step} (record { answer = answerOutcome r; table = now (votes .exit); network = now (network .exit) }) (acceptorStep plan (now (votes .entry)) (now (network .entry)) (now (event .entry))) ⌝ }
+// The plan, the lengths, Q and N: 1, 2, 4 or 5.
+pub fn judge(plan: Plan, votes: &[u8], network: &[u8]) -> Judged
+    ensures { λ r. ⌜ judgedOutcome r ≡ acceptorJudged plan (now (votes .entry)) (now (network .entry)) ⌝ }
 {
     if !message::is_plan(plan) {
-        return Answer::Refused(1);
+        return Judged::Refused(1);
     }
     if votes.len() != 3 * ((plan.rms as usize) * (plan.acceptors as usize)) {
-        return Answer::Refused(2);
+        return Judged::Refused(2);
     }
     if !slots::is_table_length(network.len()) {
-        return Answer::Refused(2);
+        return Judged::Refused(2);
     }
     if !are_votes(votes) {
-        return Answer::Refused(4);
+        return Judged::Refused(4);
     }
     if !slots::is_table(plan, network) {
-        return Answer::Refused(5);
+        return Judged::Refused(5);
     }
-    act(plan, votes, network, event)
+    Judged::Sound
+}
+
+// The step: what `judge` refuses, and then as `perform`; a refusal changes no byte.
+pub fn step(plan: Plan, votes: &mut [u8], network: &mut [u8], event: &[u8]) -> Answer
+    ensures { λ r. ⌜ stepOf r (now (votes .exit)) (now (network .exit)) ≡
+        acceptorStep plan (now (votes .entry)) (now (network .entry)) (now (event .entry)) ⌝ }
+{
+    let judged = judge(plan, votes, network);
+    match judged {
+        Judged::Refused(number) => Answer::Refused(number),
+        Judged::Sound => perform(plan, votes, network, event),
+    }
 }

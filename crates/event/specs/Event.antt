@@ -3,7 +3,8 @@
 --     whoLimit                                     how many processes the kind's role has
 --     areArguments                                 whether high and low are in range for the kind
 --     isEvent                                      row 7
--- Assumes nothing.
+-- Its laws are in Event/Laws.antt. Assumes nothing.
+pub mod Laws
 use Prim.Native.Nat.{ℕ, _+_, _*_}
 use mathlib.Core.Bool.{Bool, true, _&&_, cond}
 use mathlib.Core.List.{List}

@@ -1,12 +1,9 @@
-// What the steps of all roles share: the event's four bytes, and the answer (document 01, "The nine events").
+// The four bytes of an event (document 01, "The nine events").
 //
 //     is_event          row 7 of "Refusals by place": four bytes, a kind, a process and arguments in range
 //     slot_number       the slot that kinds 2, 3 and 4 name
-//     Answer, answer_number   an accepted event's slot or quiet, or the refusal's number
 ghost use mathlib.Core.Path.{_≡_};
-ghost use Rattle.message.specs.Outcome.{numberOf};
 ghost use Rattle.event.specs.Event.{whoLimit, areZero, areArguments, isEvent, slotNumber};
-ghost use Rattle.event.specs.Answer.{answerOutcome};
 use message::Plan;
 
 // How many processes the kind's role has: resource managers for 0 to 2, acceptors for 3, leaders from 4 on.
@@ -77,22 +74,4 @@ pub fn slot_number(event: &[u8]) -> usize
     let high = message::byte_at(event, 2);
     let low = message::byte_at(event, 3);
     256 * (high as usize) + low as usize
-}
-
-// A step's answer: the first slot of N where the sent message stands, quiet for kinds 2 and 4, or the refusal's number.
-pub enum Answer {
-    Sent(usize),
-    Quiet,
-    Refused(u8),
-}
-
-// The refusal's number in an answer, 0 where the event was accepted.
-pub fn answer_number(answer: Answer) -> u8
-    ensures { λ r. ⌜ r ≡ numberOf (answerOutcome answer) ⌝ }
-{
-    match answer {
-        Answer::Sent(_) => 0,
-        Answer::Quiet => 0,
-        Answer::Refused(number) => number,
-    }
 }

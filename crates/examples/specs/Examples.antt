@@ -11,21 +11,22 @@ use Rattle.message.specs.declared.Plan.{Plan}
 use Rattle.message.specs.declared.Vote.the-variants.{None}
 use Rattle.message.specs.declared.Message.{Message}
 use Rattle.message.specs.declared.Message.the-variants.{Phase1b, Phase2a}
-use Rattle.message.specs.Outcome.{Outcome, accepted, refused, refuseIf}
+use Rattle.message.specs.Outcome.{Outcome, accepted, refused, andThen, refuseIf}
 use Rattle.message.specs.Plan.{isPlan, isCount}
 use Rattle.message.specs.Form.{isValue, isVote, isInRange, bytesOf, bytesOf1b, messageLength, slotOf, mapLengths, mapLength, fieldsMessage, decode}
 use Rattle.message.specs.Codec.{readMessage}
 use Rattle.slots.specs.All.{all}
-use Rattle.slots.specs.Table.{isTableLength, slotsUpTo, slots, isZero, readSlot, readTable, allUnused, isOrdered, isTable, usedMessages, messages}
-use Rattle.slots.specs.Scan.{sameBytes, storeAt}
+use Rattle.slots.specs.Table.{isTableLength, slotsUpTo, slots, isZero, readSlot, readTable, allUnused, isOrdered, isTable, usedMessages, messages, sameBytes, storeAt}
 use Rattle.slots.specs.Send.{sameMessage, placeFrom, placeIn, messageAt}
 use Rattle.slots.specs.View.{sending}
 use Rattle.event.specs.Event.{slotNumber, whoLimit, areZero, areArguments, isEvent}
-use Rattle.event.specs.Answer.{Sent, slot}
-use Rattle.event.specs.Step.{Step}
-use Rattle.acceptor.specs.Acceptor.{voteAt, isVoteState, areVotes, voteOf, phase1b, phase2b, acceptorReceiveMessage, acceptorReceive, acceptorDecide, acceptorStep}
-use Rattle.paxos_commit.specs.Quorum.{countAcceptors, isMajority, isQuorum}
-use Rattle.leader.specs.Leader.{owns, any, is1b, is2a, is2b, higher, reportOf, highestReport, proposal, chosen, isChosen2b, decided, decidedAll, keepOwn, sendBoth, phase2a, sendOnly, decideSend, leaderKind, leaderDecide, leaderStep}
+use Rattle.change.specs.declared.Sent.{Sent}
+use Rattle.change.specs.declared.Sent.the-variants.{Slot}
+use Rattle.change.specs.Change.{Step}
+use Rattle.acceptor.specs.Acceptor.{voteAt, isVoteState, areVotes, voteOf, phase1b, phase2b, acceptorJudged, acceptorReceive, acceptorVerdict, acceptorStep}
+use Rattle.quorum.specs.Quorum.{countAcceptors, isMajority, isQuorum}
+use Rattle.inbox.specs.Inbox.{any, is1b, is2a, is2b, higher, reportOf, highestReport, proposal, chosen, isChosen2b, decided, forAll}
+use Rattle.leader.specs.Leader.{owns, leaderJudged, phase2aMessage, keepOwn, sendBoth, phase2a, sendOnly, decideSend, leaderKind, leaderVerdict, leaderStep}
 
 pub data Result : Type 0 where
   reads : Outcome Message → Result
@@ -73,17 +74,23 @@ examples =
     ∷ record { number = 4; computed = reads (readMessage (planOf 1) (0x19 ∷ 0x00 ∷ 0x00 ∷ [])); expected = reads (refused 16) }
     ∷ record { number = 5; computed = reads (readMessage (planOf 1) (0x19 ∷ 0x00 ∷ 0x00 ∷ 0x03 ∷ [])); expected = reads (refused 17) }
     ∷ record { number = 6; computed = reads (readMessage (planOf 1) (0x09 ∷ 0x00 ∷ 0x00 ∷ [])); expected = reads (refused 17) }
-    ∷ record { number = 7; computed = acceptorAt2 (slot2a 2 1); expected = stepOf (accepted (slot 1)) (0x02 ∷ 0x02 ∷ 0x01 ∷ []) (slot2a 2 1 ++ (0x1B ∷ 0 ∷ 0 ∷ 2 ∷ 1 ∷ 0 ∷ [])) }
+    ∷ record { number = 7; computed = acceptorAt2 (slot2a 2 1); expected = stepOf (accepted (Slot 1)) (0x02 ∷ 0x02 ∷ 0x01 ∷ []) (slot2a 2 1 ++ (0x1B ∷ 0 ∷ 0 ∷ 2 ∷ 1 ∷ 0 ∷ [])) }
     ∷ record { number = 8; computed = acceptorAt2 (slot2a 1 1); expected = stepOf (refused 12) (0x02 ∷ 0x00 ∷ 0x00 ∷ []) (slot2a 1 1 ++ free) }
     ∷ record { number = 9; computed = acceptorAt2 (slot1a 2); expected = stepOf (refused 12) (0x02 ∷ 0x00 ∷ 0x00 ∷ []) (slot1a 2 ++ free) }
-    ∷ record { number = 10; computed = acceptorAt2 (slot1a 3); expected = stepOf (accepted (slot 1)) (0x03 ∷ 0x00 ∷ 0x00 ∷ []) (slot1a 3 ++ (0x07 ∷ 0 ∷ 0 ∷ 3 ∷ 0 ∷ 0 ∷ [])) }
+    ∷ record { number = 10; computed = acceptorAt2 (slot1a 3); expected = stepOf (accepted (Slot 1)) (0x03 ∷ 0x00 ∷ 0x00 ∷ []) (slot1a 3 ++ (0x07 ∷ 0 ∷ 0 ∷ 3 ∷ 0 ∷ 0 ∷ [])) }
     ∷ record {
       number = 11;
       computed = phase2aAt3 3 ((0x1F ∷ 0x00 ∷ 0x00 ∷ 0x03 ∷ 0x00 ∷ 0x01 ∷ []) ++ (0x1F ∷ 0x00 ∷ 0x01 ∷ 0x03 ∷ 0x02 ∷ 0x02 ∷ []));
-      expected = stepOf (accepted (slot 0)) ((0x1F ∷ 0x00 ∷ 0x00 ∷ 0x03 ∷ 0x00 ∷ 0x01 ∷ []) ++ ((0x1F ∷ 0x00 ∷ 0x01 ∷ 0x03 ∷ 0x02 ∷ 0x02 ∷ []) ++ (0x19 ∷ 0x00 ∷ 0x03 ∷ 0x02 ∷ 0 ∷ 0 ∷ []))) (0x19 ∷ 0x00 ∷ 0x03 ∷ 0x02 ∷ 0 ∷ 0 ∷ []);
+      expected = stepOf (accepted (Slot 0)) ((0x1F ∷ 0x00 ∷ 0x00 ∷ 0x03 ∷ 0x00 ∷ 0x01 ∷ []) ++ ((0x1F ∷ 0x00 ∷ 0x01 ∷ 0x03 ∷ 0x02 ∷ 0x02 ∷ []) ++
+          (0x19 ∷ 0x00 ∷ 0x03 ∷ 0x02 ∷ 0 ∷ 0 ∷ []))) (0x19 ∷ 0x00 ∷ 0x03 ∷ 0x02 ∷ 0 ∷ 0 ∷ []);
     }
     ∷ record { number = 12; computed = phase2aAt3 4 (slot1b 0 ++ slot1b 1); expected = stepOf (refused 12) (slot1b 0 ++ (slot1b 1 ++ free)) free }
-    ∷ record { number = 12; computed = phase2aAt3 4 (slot1b 0 ++ (slot1b 1 ++ slot1b 2)); expected = stepOf (accepted (slot 0)) (slot1b 0 ++ (slot1b 1 ++ (slot1b 2 ++ slot2a 3 2))) (slot2a 3 2) }
+    ∷ record {
+      number = 12;
+      computed = phase2aAt3 4 (slot1b 0 ++ (slot1b 1 ++ slot1b 2));
+      expected = stepOf (accepted (Slot 0)) (slot1b 0 ++ (slot1b 1 ++
+          (slot1b 2 ++ slot2a 3 2))) (slot2a 3 2);
+    }
     ∷ record {
       number = 13;
       computed = steps (leaderStep (planOf 3) ((0x1B ∷ 0 ∷ 0 ∷ 0 ∷ 1 ∷ 0 ∷ []) ++ ((0x1B ∷ 0 ∷ 1 ∷ 3 ∷ 1 ∷ 0 ∷ []) ++ free)) free (7 ∷ 0 ∷ 0 ∷ 0 ∷ []));
@@ -92,5 +99,10 @@ examples =
     ∷ []
 
 pub examples-hold : map (λ (e : Example). e .computed) examples ≡ map (λ (e : Example). e .expected) examples
-unfolding examples readMessage refuseIf isPlan isCount isValue isVote isInRange bytesOf bytesOf1b messageLength slotOf mapLengths mapLength fieldsMessage decode all isTableLength slotsUpTo slots isZero readSlot readTable allUnused isOrdered isTable usedMessages messages sameBytes storeAt sameMessage placeFrom placeIn messageAt sending slotNumber whoLimit areZero areArguments isEvent voteAt isVoteState areVotes voteOf phase1b phase2b acceptorReceiveMessage acceptorReceive acceptorDecide acceptorStep countAcceptors isMajority isQuorum owns any is1b is2a is2b higher reportOf highestReport proposal chosen isChosen2b decided decidedAll keepOwn sendBoth phase2a sendOnly decideSend leaderKind leaderDecide leaderStep
+unfolding examples readMessage andThen refuseIf isPlan isCount isValue isVote isInRange bytesOf bytesOf1b messageLength slotOf mapLengths
+    mapLength fieldsMessage decode all isTableLength slotsUpTo slots isZero readSlot readTable allUnused isOrdered isTable usedMessages
+    messages sameBytes storeAt sameMessage placeFrom placeIn messageAt sending slotNumber whoLimit areZero areArguments isEvent voteAt
+    isVoteState areVotes acceptorJudged voteOf phase1b phase2b acceptorReceive acceptorVerdict acceptorStep countAcceptors isMajority
+    isQuorum any is1b is2a is2b higher reportOf highestReport proposal chosen isChosen2b decided forAll owns leaderJudged phase2aMessage
+    keepOwn sendBoth phase2a sendOnly decideSend leaderKind leaderVerdict leaderStep
 examples-hold = refl

@@ -1,150 +1,67 @@
--- The step of a leader, kinds 4 to 8 (document 01, "The nine events" and "Refusals by place"). `inbox` is the list of messages in the
--- leader's own inbox: all its conditions are read from there.
+-- The step of a leader, kinds 4 to 8 (document 01, "The nine events" and "Refusals by place"). All its conditions are read from the
+-- messages in its own inbox (the crate inbox).
 --     owns                          which ballots a leader owns
---     any                           whether some message passes a test
---     is1b, is2a, is2b              the messages of an instance and ballot
---     higher, reportOf, highestReport, proposal     the value that Phase2a proposes
---     decided, decidedAll, decidedSome              Decided(i, v), and the guards of kinds 7 and 8
---     receipt, phase1a, phase2a, decideSend         the events of kinds 4, 5, 6, and 7 and 8
---     leaderKind, leaderDecide      rows 7 to 14: what an event changes on judged tables, or its refusal
---     applied                       the answer and the two tables after it
---     leaderStep                    the whole call: rows 1 to 14
--- Assumes nothing.
-pub mod Gather
-use Prim.Native.Nat.{ℕ, zero, suc, _/_, _%_}
-use mathlib.Core.Bool.{Bool, true, false, not, _&&_, _||_, cond}
-use mathlib.Core.List.{List, [], _∷_}
+--     leaderJudged                  rows 1, 2, 5 and 6: the plan and both tables
+--     receipt                       kind 4
+--     phase1a                       kind 5
+--     phase2aMessage, sendBoth, phase2a     kind 6: the message that it sends, then the sending
+--     decideSend                    kinds 7 and 8
+--     leaderKind, leaderVerdict     rows 7 to 14: what an event changes, or its refusal
+--     leaderStep                    the whole call
+-- The laws of ownership are in Leader/Laws.antt, and what is judged in Leader/Sound.antt. Assumes nothing.
+pub mod Laws
+pub mod Sound
+use Prim.Native.Nat.{ℕ, _%_}
+use mathlib.Core.Bool.{Bool, not, _&&_, cond}
+use mathlib.Core.List.{List}
 use lib.Dec.{ltb, leb, eqb}
 use lib.ListN.{length}
 use Rattle.message.specs.declared.Plan.{Plan}
-use Rattle.message.specs.declared.Vote.{Vote}
-use Rattle.message.specs.declared.Vote.the-variants.{None, Cast}
 use Rattle.message.specs.declared.Message.{Message}
 use Rattle.message.specs.declared.Message.the-variants.{Phase1a, Phase1b, Phase2a, Phase2b, Decision}
-use Rattle.message.specs.Outcome.{Outcome, accepted, refused, refuseIf}
+use Rattle.message.specs.Outcome.{Outcome, accepted, refused, andThen, refuseIf}
 use Rattle.message.specs.Plan.{isPlan}
-use Rattle.slots.specs.declared.Slot as SlotType
-use Rattle.slots.specs.declared.Slot.the-variants.{Unused, Used, Bad}
 use Rattle.slots.specs.declared.Store.{Store}
 use Rattle.slots.specs.declared.Store.the-variants.{Keep}
-use Rattle.slots.specs.Table.{slotSize, isTableLength, isTable, messages}
-use Rattle.slots.specs.View.{View, viewMessages, storeBytes, sending}
-use Rattle.event.specs.declared.Answer.the-variants.{Sent, Quiet}
+use Rattle.slots.specs.Table.{isTableLength, isTable}
+use Rattle.slots.specs.View.{View, viewTable, sending}
+use Rattle.change.specs.declared.Change.{Change}
+use Rattle.change.specs.declared.Sent.the-variants.{Slot, Quiet}
+use Rattle.change.specs.declared.Update.the-variants.{Inbox}
+use Rattle.change.specs.Change.{Step, applied}
 use Rattle.event.specs.Event.{kindOf, whoOf, highOf, lowOf, slotNumber, isEvent}
-use Rattle.event.specs.Answer.{answerOutcome}
-use Rattle.event.specs.Step.{Step}
-use Rattle.leader.specs.declared.Change.{Change}
-use Rattle.leader.specs.declared.Verdict.{Verdict}
-use Rattle.leader.specs.declared.Verdict.the-variants as Verdicts
-use Rattle.paxos_commit.specs.Quorum.{isQuorum}
+use Rattle.quorum.specs.Quorum.{isQuorum}
+use Rattle.inbox.specs.Inbox.{any, is1b, is2a, highestReport, proposal, decided, forAll, forSome}
 
 -- leader l owns ballot b when b > 0 and b mod L = l
 unfoldable pub owns : Plan → ℕ → ℕ → Bool
-owns p who ballot = leb 1 ballot && eqb (ballot % p .leaders) who
+owns p who b = leb 1 b && eqb (b % p .leaders) who
 
-unfoldable pub any : (Message → Bool) → List Message → Bool
-any test [] = false
-any test (m ∷ ms) = test m || any test ms
-
--- a 1b of instance i with mbal b from acceptor a
-unfoldable pub is1b : ℕ → ℕ → ℕ → Message → Bool
-is1b i b a (Phase1a ins bal) = false
-is1b i b a (Phase1b ins acc mbal vote) = eqb ins i && (eqb mbal b && eqb acc a)
-is1b i b a (Phase2a ins bal val) = false
-is1b i b a (Phase2b ins acc bal val) = false
-is1b i b a (Decision val) = false
-
--- a 2a of instance i at ballot b
-unfoldable pub is2a : ℕ → ℕ → Message → Bool
-is2a i b (Phase1a ins bal) = false
-is2a i b (Phase1b ins acc mbal vote) = false
-is2a i b (Phase2a ins bal val) = eqb ins i && eqb bal b
-is2a i b (Phase2b ins acc bal val) = false
-is2a i b (Decision val) = false
-
--- a 2b of instance i at ballot b with value v from acceptor a
-unfoldable pub is2b : ℕ → ℕ → ℕ → ℕ → Message → Bool
-is2b i b v a (Phase1a ins bal) = false
-is2b i b v a (Phase1b ins acc mbal vote) = false
-is2b i b v a (Phase2a ins bal val) = false
-is2b i b v a (Phase2b ins acc bal val) = eqb ins i && (eqb bal b && (eqb val v && eqb acc a))
-is2b i b v a (Decision val) = false
-
--- of two vote reports the one with the higher ballot, and of equals the first
-unfoldable pub higher : Vote → Vote → Vote
-higher None second = second
-higher (Cast bal val) None = Cast bal val
-higher (Cast bal val) (Cast bal′ val′) = cond (ltb bal bal′) (Cast bal′ val′) (Cast bal val)
-
--- the vote report in a 1b of instance i with mbal b
-unfoldable pub reportOf : ℕ → ℕ → Message → Vote
-reportOf i b (Phase1a ins bal) = None
-reportOf i b (Phase1b ins acc mbal vote) = cond (eqb ins i && eqb mbal b) vote None
-reportOf i b (Phase2a ins bal val) = None
-reportOf i b (Phase2b ins acc bal val) = None
-reportOf i b (Decision val) = None
-
-unfoldable pub highestReport : ℕ → ℕ → List Message → Vote
-highestReport i b [] = None
-highestReport i b (m ∷ ms) = higher (reportOf i b m) (highestReport i b ms)
-
--- 2 where none reports a vote
-unfoldable pub proposal : Vote → ℕ
-proposal None = 2
-proposal (Cast bal val) = val
-
--- the acceptors with a 2b of (i, b, v) are a majority
-unfoldable pub chosen : Plan → List Message → ℕ → ℕ → ℕ → Bool
-chosen p inbox i b v = isQuorum p (λ a. any (is2b i b v a) inbox)
-
--- a 2b of (i, v) whose ballot is one at which (i, v) is chosen
-unfoldable pub isChosen2b : Plan → List Message → ℕ → ℕ → Message → Bool
-isChosen2b p inbox i v (Phase1a ins bal) = false
-isChosen2b p inbox i v (Phase1b ins acc mbal vote) = false
-isChosen2b p inbox i v (Phase2a ins bal val) = false
-isChosen2b p inbox i v (Phase2b ins acc bal val) = eqb ins i && (eqb val v && chosen p inbox i bal v)
-isChosen2b p inbox i v (Decision val) = false
-
--- Decided(i, v): at some ballot (i, v) is chosen. It is the ballot of a 2b in the inbox, since a majority is not empty.
-unfoldable pub decided : Plan → List Message → ℕ → ℕ → Bool
-decided p inbox i v = any (isChosen2b p inbox i v) inbox
-
--- for all, and for some, of the first `count` instances
-unfoldable pub decidedAll : Plan → List Message → ℕ → ℕ → Bool
-decidedAll p inbox zero v = true
-decidedAll p inbox (suc count) v = decided p inbox count v && decidedAll p inbox count v
-
-unfoldable pub decidedSome : Plan → List Message → ℕ → ℕ → Bool
-decidedSome p inbox zero v = false
-decidedSome p inbox (suc count) v = decided p inbox count v || decidedSome p inbox count v
-
--- what the verdict's enum stands for
-abbrev pub verdictOutcome : Verdict → Outcome Change
-verdictOutcome (Verdicts.Accepted change) = accepted change
-verdictOutcome (Verdicts.Refused number) = refused number
+unfoldable pub leaderJudged : Plan → List ℕ → List ℕ → Outcome (Unit {0})
+leaderJudged p inbox network =
+    refuseIf (not (isPlan p)) 1
+    (refuseIf (not (isTableLength (length inbox))) 2
+    (refuseIf (not (isTableLength (length network))) 2
+    (refuseIf (not (isTable p network)) 5
+    (refuseIf (not (isTable p inbox)) 6
+    (accepted tt)))))
 
 -- kind 4: the message is appended to the inbox unless there
 unfoldable pub receiptStore : View → Message → Outcome Change
 receiptStore box m =
-    sending 14 (box .send m) (λ slot store. accepted (record { inbox = store; network = Keep; answer = Quiet }))
+    sending 14 (box .send m) (λ slot store. accepted (record { table = Inbox store; network = Keep; sent = Quiet }))
 
 -- row 9
-unfoldable pub receiptMessage : View → Message → Outcome Change
-receiptMessage box (Phase1a ins bal) = refused 9
-receiptMessage box (Phase1b ins acc mbal vote) = receiptStore box (Phase1b ins acc mbal vote)
-receiptMessage box (Phase2a ins bal val) = refused 9
-receiptMessage box (Phase2b ins acc bal val) = receiptStore box (Phase2b ins acc bal val)
-receiptMessage box (Decision val) = refused 9
-
--- row 8; a judged table has no bad slot
-unfoldable pub receipt : View → SlotType.Slot → Outcome Change
-receipt box Unused = refused 8
-receipt box (Used m) = receiptMessage box m
-receipt box Bad = refused 8
+unfoldable pub receipt : View → Message → Outcome Change
+receipt box (Phase1a ins bal) = refused 9
+receipt box (Phase1b ins acc mbal vote) = receiptStore box (Phase1b ins acc mbal vote)
+receipt box (Phase2a ins bal val) = refused 9
+receipt box (Phase2b ins acc bal val) = receiptStore box (Phase2b ins acc bal val)
+receipt box (Decision val) = refused 9
 
 -- a message sent, with nothing for the inbox
 unfoldable pub sendOnly : View → Message → Outcome Change
-sendOnly net m = sending 13 (net .send m) (λ slot store. accepted (record { inbox = Keep; network = store; answer = Sent slot }))
+sendOnly net m = sending 13 (net .send m) (λ slot store. accepted (record { table = Inbox Keep; network = store; sent = Slot slot }))
 
 -- kind 5
 unfoldable pub phase1a : Plan → View → ℕ → ℕ → ℕ → Outcome Change
@@ -152,57 +69,51 @@ phase1a p net who i b =
     refuseIf (not (owns p who b)) 10
     (sendOnly net (Phase1a i b))
 
+-- kind 6: the inbox has no 2a for (i, b), and the acceptors with a 1b there for i with mbal b are a majority; then the 2a with the value
+-- of the highest report
+unfoldable pub phase2aMessage : Plan → List Message → ℕ → ℕ → ℕ → Outcome Message
+phase2aMessage p inbox who i b =
+    refuseIf (not (owns p who b)) 10
+    (refuseIf (any (is2a i b) inbox) 12
+    (refuseIf (not (isQuorum (p .acceptors) (λ a. any (is1b i b a) inbox))) 12
+    (accepted (Phase2a i b (proposal (highestReport i b inbox))))))
+
 -- the own 2a is appended to the inbox unless there
 unfoldable pub keepOwn : View → Message → ℕ → Store → Outcome Change
 keepOwn box m slot store =
-    sending 14 (box .send m) (λ place kept. accepted (record { inbox = kept; network = store; answer = Sent slot }))
+    sending 14 (box .send m) (λ place kept. accepted (record { table = Inbox kept; network = store; sent = Slot slot }))
 
 unfoldable pub sendBoth : View → View → Message → Outcome Change
 sendBoth box net m = sending 13 (net .send m) (keepOwn box m)
 
--- kind 6: the inbox has no 2a for (i, b), and the acceptors with a 1b there for i with mbal b are a majority
 unfoldable pub phase2a : Plan → View → View → ℕ → ℕ → ℕ → Outcome Change
-phase2a p box net who i b =
-    refuseIf (not (owns p who b)) 10
-    (refuseIf (any (is2a i b) (box .messages)) 12
-    (refuseIf (not (isQuorum p (λ a. any (is1b i b a) (box .messages)))) 12
-    (sendBoth box net (Phase2a i b (proposal (highestReport i b (box .messages)))))))
+phase2a p box net who i b = andThen (phase2aMessage p (box .messages) who i b) (sendBoth box net)
 
--- kinds 7 and 8: Commit where Decided(i, 1) for all i, Abort where Decided(i, 2) for some i
+-- kinds 7 and 8, by whether they are enabled
 unfoldable pub decideSend : View → Bool → ℕ → Outcome Change
-decideSend net guard val =
-    refuseIf (not guard) 12
+decideSend net enabled val =
+    refuseIf (not enabled) 12
     (sendOnly net (Decision val))
 
--- the kinds' own rows
-unfoldable pub leaderKind : Plan → View → View → List ℕ → ℕ → Outcome Change
-leaderKind p box net e kind =
-    cond (eqb kind 4) (receipt box (net .slot (slotNumber e)))
+-- the kinds' own rows; for kind 4 row 8 is in the slot. Commit where `isDecided i 1` for all i, Abort where `isDecided i 2` for some i
+unfoldable pub leaderKind : Plan → (ℕ → ℕ → Bool) → View → View → List ℕ → ℕ → Outcome Change
+leaderKind p isDecided box net e kind =
+    cond (eqb kind 4) (andThen (net .slot (slotNumber e)) (receipt box))
     (cond (eqb kind 5) (phase1a p net (whoOf e) (highOf e) (lowOf e))
     (cond (eqb kind 6) (phase2a p box net (whoOf e) (highOf e) (lowOf e))
-    (cond (eqb kind 7) (decideSend net (decidedAll p (box .messages) (p .rms) 1) 1)
-    (decideSend net (decidedSome p (box .messages) (p .rms) 2) 2))))
+    (cond (eqb kind 7) (decideSend net (forAll (p .rms) (λ i. isDecided i 1)) 1)
+    (decideSend net (forSome (p .rms) (λ i. isDecided i 2)) 2))))
 
--- row 7, with another role's kind; then the kind
-unfoldable pub leaderDecide : Plan → View → View → List ℕ → Outcome Change
-leaderDecide p box net e =
-    refuseIf (not (isEvent p e)) 7
+-- row 7, with another role's kind; Decided is read from the inbox. The plan is judged here too, so that the part by itself needs no check
+-- before it
+unfoldable pub leaderVerdict : Plan → View → View → List ℕ → Outcome Change
+leaderVerdict p box net e =
+    refuseIf (not (isPlan p)) 1
+    (refuseIf (not (isEvent p e)) 7
     (refuseIf (ltb (kindOf e) 4) 7
-    (leaderKind p box net e (kindOf e)))
+    (leaderKind p (decided p (box .messages)) box net e (kindOf e))))
 
--- a refusal changes no byte
-abbrev pub applied : List ℕ → List ℕ → Outcome Change → Step
-applied inbox network (accepted change) =
-    record { answer = answerOutcome (change .answer); table = storeBytes (change .inbox) inbox; network = storeBytes (change .network) network }
-applied inbox network (refused number) = record { answer = refused number; table = inbox; network = network }
-
--- the call: rows 1, 2, 5 and 6 judge the plan and both tables, then the event is taken on the messages that they hold
+-- the event is taken on the messages that the inbox and N hold
 unfoldable pub leaderStep : Plan → List ℕ → List ℕ → List ℕ → Step
 leaderStep p inbox network e =
-    applied inbox network
-    (refuseIf (not (isPlan p)) 1
-    (refuseIf (not (isTableLength (length inbox))) 2
-    (refuseIf (not (isTableLength (length network))) 2
-    (refuseIf (not (isTable p network)) 5
-    (refuseIf (not (isTable p inbox)) 6
-    (leaderDecide p (viewMessages (length inbox / slotSize) (messages p inbox)) (viewMessages (length network / slotSize) (messages p network)) e))))))
+    applied p inbox network (andThen (leaderJudged p inbox network) (λ _. leaderVerdict p (viewTable p inbox) (viewTable p network) e))

@@ -1,46 +1,37 @@
 -- What the match of a leader's step speaks of. The theorems are in Theorems.antt, their proofs in Leader/Laws.antt.
---     Judged                           what rows 1, 2, 5 and 6 judge
---     stateOf                          the variables of module PaxosCommit: msgs as N holds them; a leader changes no other
---     Phase1aAction, Phase2aAction, CommitAction, AbortAction     the actions at a plan's constants, their conditions read from `seen`
---     isReceived                       the messages that a leader takes
---     Receipt                          what a receipt does
---     LeaderMatches, LeaderRefuses     the step matches an action; it refuses with a number and changes no byte
+--     Phase1aAction, Phase2aAction, CommitAction, AbortAction     the actions at a plan's constants; `seen` is what their conditions are read from
+--     stateOf                  the variables of module PaxosCommit: msgs as N holds them; a leader changes no other
+--     isReceived, proposed, Reports     the messages that a leader takes; the 2a that it proposes; the votes that 1b messages report
+--     NotOwned, Disabled, Full, InboxFull     rows 10, 12, 13 and 14
+--     leaderRows               the rows of "Refusals by place" for the call
 -- Assumes nothing.
 pub mod Conditions
+pub mod Highest
+pub mod Guards
+pub mod Ruled
+pub mod Took
 pub mod Laws
-use Prim.Native.Nat.{ℕ}
-use mathlib.Core.Bool.{Bool, true, false, not}
-use mathlib.Core.List.{List}
+use Prim.Native.Nat.{ℕ, _<_}
+use mathlib.Core.Bool.{Bool, true, false}
+use mathlib.Core.List.{List, List·Memᴰ}
+use mathlib.Core.Logic.{_⊎_}
 use mathlib.Core.Path.{_≡_}
 use lib.ListN.{length}
 use Rattle.message.specs.declared.Plan.{Plan}
+use Rattle.message.specs.declared.Vote.the-variants.{Cast}
 use Rattle.message.specs.declared.Message as Wire
 use Rattle.message.specs.declared.Message.the-variants.{Phase1a, Phase1b, Phase2a, Phase2b, Decision}
 use Rattle.message.specs.Plan.{isPlan}
+use Rattle.message.specs.Rows.{Rows, end, guard, row, Either}
 use Rattle.slots.specs.Table.{isTableLength, isTable, messages}
-use mathlib.Core.Logic.{_↔_}
-use Rattle.message.specs.Outcome.{accepted, refused}
-use Rattle.event.specs.Answer.{quiet}
-use Rattle.event.specs.Step.{Step}
-use Rattle.matching.specs.Common.{Accepted, Matches, roomOf, HasRoom, Joined}
-use Rattle.leader.specs.Leader.{leaderStep}
+use Rattle.event.specs.Event.{kindOf, whoOf, highOf, lowOf, isEvent}
+use Rattle.inbox.specs.Inbox.{highestReport, proposal}
 use Rattle.paxos_commit.specs.PaxosCommit as Source
 use Rattle.paxos_commit.specs.PaxosCommit.{Message, AState, State}
-use Rattle.paxos_commit.specs.Reading.{isRM, isAcceptor, isMajoritySet, setOf}
+use Rattle.leader.specs.Leader.{owns}
+use Rattle.matching.specs.Reading.{isRM, isAcceptor, isMajoritySet, setOf}
+use Rattle.matching.specs.Call.{Enabled, HasRoom, SlotUnused, SlotHolds}
 
--- rows 1, 2, 5 and 6 do not apply
-pub record Judged (p : Plan) (inbox network : List ℕ) : Type 0 where
-  pub plan : isPlan p ≡ true
-  pub inbox-whole : isTableLength (length inbox) ≡ true
-  pub network-whole : isTableLength (length network) ≡ true
-  pub network-ordered : isTable p network ≡ true
-  pub inbox-ordered : isTable p inbox ≡ true
-
--- N as msgs; rmState and aState are no leader's
-abbrev pub stateOf : Plan → List ℕ → (ℕ → ℕ) → (ℕ → ℕ → AState) → State
-stateOf p network rmState aState = record { rmState = rmState; aState = aState; msgs = setOf (messages p network) }
-
--- the actions at a plan's constants; `seen` is the set of messages in the inbox
 abbrev pub Phase1aAction : Plan → ℕ → ℕ → State → State → Type 0
 Phase1aAction p = Source.Phase1a (isRM p) (isAcceptor p) (isMajoritySet p)
 
@@ -48,12 +39,18 @@ abbrev pub Phase2aAction : Plan → (Message → Type 0) → ℕ → ℕ → Sta
 Phase2aAction p = Source.Phase2aFrom (isRM p) (isAcceptor p) (isMajoritySet p)
 
 abbrev pub CommitAction : Plan → (Message → Type 0) → State → State → Type 0
-CommitAction p = Source.DecideCommitFrom (isRM p) (isAcceptor p) (isMajoritySet p)
+CommitAction p seen =
+    Source.DecideCommitWhere (isRM p) (isAcceptor p) (isMajoritySet p) (Source.Decided (isRM p) (isAcceptor p) (isMajoritySet p) seen)
 
 abbrev pub AbortAction : Plan → (Message → Type 0) → State → State → Type 0
-AbortAction p = Source.DecideAbortFrom (isRM p) (isAcceptor p) (isMajoritySet p)
+AbortAction p seen =
+    Source.DecideAbortWhere (isRM p) (isAcceptor p) (isMajoritySet p) (Source.Decided (isRM p) (isAcceptor p) (isMajoritySet p) seen)
 
--- a leader takes 1b and 2b messages
+-- N as msgs; rmState and aState are no leader's
+abbrev pub stateOf : Plan → List ℕ → (ℕ → ℕ) → (ℕ → ℕ → AState) → State
+stateOf p network rmState aState = record { rmState = rmState; aState = aState; msgs = setOf (messages p network) }
+
+-- 1b and 2b
 abbrev pub isReceived : Wire.Message → Bool
 isReceived (Phase1a ins bal) = false
 isReceived (Phase1b ins acc mbal vote) = true
@@ -61,20 +58,53 @@ isReceived (Phase2a ins bal val) = false
 isReceived (Phase2b ins acc bal val) = true
 isReceived (Decision val) = false
 
--- a refusal changes no byte
-abbrev pub LeaderRefuses : Plan → List ℕ → List ℕ → List ℕ → ℕ → Type 0
-LeaderRefuses p inbox network e number = leaderStep p inbox network e ≡ record { answer = refused number; table = inbox; network = network }
+-- kind 6: the value of the highest report in the inbox, of several the first; 2 where none reports a vote
+abbrev pub proposed : Plan → List ℕ → List ℕ → Wire.Message
+proposed p inbox e = Phase2a (highOf e) (lowOf e) (proposal (highestReport (highOf e) (lowOf e) (messages p inbox)))
 
--- the step matches an action, apart from the refusals that document 01 adds where `added` does not hold
-abbrev pub LeaderMatches : Plan → List ℕ → List ℕ → List ℕ → (ℕ → ℕ) → (ℕ → ℕ → AState) → (State → State → Type 0) → Type 0 → Type 1
-LeaderMatches p inbox network e rmState aState action added =
-    let r = leaderStep p inbox network e in
-    Matches p action added (stateOf p network rmState aState) r (stateOf p (r .network) rmState aState)
+-- a 1b of (i, b) among these messages reports a vote at ballot c
+abbrev pub Reports : List Wire.Message → ℕ → ℕ → ℕ → Type 0
+Reports ms i b c = (a v : ℕ) × List·Memᴰ (Phase1b i a b (Cast c v)) ms
 
--- a receipt: accepted where the inbox has room, else 14; then it is quiet, the message is copied to the inbox, and nothing else changes
-pub record Receipt (p : Plan) (inbox network : List ℕ) (m : Wire.Message) (r : Step) : Type 0 where
-  pub accepts : Accepted r ↔ HasRoom (roomOf inbox) (messages p inbox) m
-  pub copied : Accepted r → (x : Message) → setOf (messages p (r .table)) x ↔ Joined (messages p inbox) m x
-  pub answers : Accepted r → r .answer ≡ accepted quiet
-  pub full : (HasRoom (roomOf inbox) (messages p inbox) m → ⊥) → r ≡ record { answer = refused 14; table = inbox; network = network }
-  pub kept : r .network ≡ network
+-- row 10: the ballot of kinds 5 and 6 is not the leader's
+abbrev pub NotOwned : Plan → List ℕ → Type 0
+NotOwned p e = ((kindOf e ≡ 5) ⊎ (kindOf e ≡ 6)) × (owns p (whoOf e) (lowOf e) ≡ false)
+
+-- row 12: the kind's action, read from the inbox, is not enabled
+abbrev pub Disabled : Plan → List ℕ → List ℕ → State → Type 1
+Disabled p inbox e s =
+    Either
+    ((kindOf e ≡ 6) × (Enabled p (Phase2aAction p (setOf (messages p inbox)) (lowOf e) (highOf e)) s → ⊥))
+    (Either
+    ((kindOf e ≡ 7) × (Enabled p (CommitAction p (setOf (messages p inbox))) s → ⊥))
+    ((kindOf e ≡ 8) × (Enabled p (AbortAction p (setOf (messages p inbox))) s → ⊥)))
+
+-- row 13: the message to send is not in N, and N has no unused slot
+abbrev pub Full : Plan → List ℕ → List ℕ → List ℕ → Type 0
+Full p inbox network e =
+    ((kindOf e ≡ 5) × (HasRoom p network (Phase1a (highOf e) (lowOf e)) → ⊥))
+    ⊎ (((kindOf e ≡ 6) × (HasRoom p network (proposed p inbox e) → ⊥))
+    ⊎ (((kindOf e ≡ 7) × (HasRoom p network (Decision 1) → ⊥))
+    ⊎ ((kindOf e ≡ 8) × (HasRoom p network (Decision 2) → ⊥))))
+
+-- row 14: likewise for the inbox, of the received message and of the leader's own 2a
+abbrev pub InboxFull : Plan → List ℕ → List ℕ → List ℕ → Type 0
+InboxFull p inbox network e =
+    ((kindOf e ≡ 4) × SlotHolds p network e (λ m. HasRoom p inbox m → ⊥))
+    ⊎ ((kindOf e ≡ 6) × (HasRoom p inbox (proposed p inbox e) → ⊥))
+
+-- a leader's own call: the plan, its two tables, the event, and the rows of kinds 4 to 8
+abbrev pub leaderRows : Plan → List ℕ → List ℕ → List ℕ → State → Rows
+leaderRows p inbox network e s =
+    row 1 (isPlan p ≡ false)
+    (row 2 ((isTableLength (length inbox) ≡ false) ⊎ (isTableLength (length network) ≡ false))
+    (row 5 (isTable p network ≡ false)
+    (row 6 (isTable p inbox ≡ false)
+    (row 7 ((isEvent p e ≡ false) ⊎ (kindOf e < 4))
+    (row 8 ((kindOf e ≡ 4) × SlotUnused p network e)
+    (row 9 ((kindOf e ≡ 4) × SlotHolds p network e (λ m. isReceived m ≡ false))
+    (row 10 (NotOwned p e)
+    (guard 12 (Disabled p inbox e s)
+    (row 13 (Full p inbox network e)
+    (row 14 (InboxFull p inbox network e)
+    end))))))))))

@@ -1,11 +1,10 @@
--- Demand 2 for each role's step: it is accepted exactly when its action of module PaxosCommit is enabled, apart from the refusals that
--- document 01 adds, and it sets what the action sets.
---     Common     what a match is; rooms and sets of messages
---     Rm         RMPrepare, RMChooseToAbort, RMRcvCommitMsg, RMRcvAbortMsg
---     Acceptor   Phase1b, Phase2b
---     Leader     receipt, Phase1a, Phase2a, Decide
---     Theorems   the theorems, each stated whole
-pub mod Common
+-- Demand 2, role by role.
+--     Reading    how the bytes of a record are read as the variables of module PaxosCommit
+--     Call       what is said of the calls of all roles
+--     Rm, Acceptor, Leader     the actions and the rows of each role's call; below each, the proofs
+--     Theorems   the theorems
+pub mod Reading
+pub mod Call
 pub mod Rm
 pub mod Acceptor
 pub mod Leader

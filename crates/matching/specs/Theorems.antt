@@ -1,189 +1,237 @@
--- Demand 2, role by role: a step is accepted exactly when its action of module PaxosCommit is enabled, apart from the refusals that
--- document 01 adds; it then sets what the action sets, and a refused step changes nothing. Each action is at the plan's constants; the
--- variables that are no business of the role (`aState`, `rmState`) are any.
---     rm-judged, acceptor-judged, leader-judged     a plan and tables that are not judged well formed: 1, 2, and 3, 4, 5 or 6
---     rm-prepare, rm-choose-to-abort     kinds 0 and 1: 12 where the action is not enabled, 13 where N has no room
---     rm-receive-commit, -abort          kind 2 on a decision: 11 where the resource manager has decided the other way, or may not commit yet
---     acceptor-phase1b, -phase2b         kind 3 on a 1a and on a 2a: 12 where the action is not enabled, 13 where N has no room
---     leader-receipt                     kind 4: the message is copied to the inbox, unless it has no room (14)
---     leader-phase1a                     kind 5: added are ownership (10) and room in N (13)
---     leader-phase2a, -sent              kind 6, its conditions read from the inbox: ownership (10), room in N (13) and in the inbox (14);
---                                        the value is that of the highest report, of several the first; that 2a joins N and the inbox
---     leader-commit, leader-abort        kinds 7 and 8, read from the inbox: room in N (13)
---     leader-inbox                       kinds 5, 7 and 8 leave the inbox
---     leader-*-10, -12, -13, -14         which number a leader answers, in the order of the rows
---     *-unused, *-other, *-other-kind, *-no-event     8, 9, and 7 for another role's event and for bytes that are no event
+-- Demand 2, role by role, and document 01's sentence "The lowest number that applies is returned". For each role's own call:
+--     *-answers       the answer is refused with k exactly where row k applies and none with a lower number does, and accepted exactly where
+--                     no row applies; row 12 is that the published action is not enabled
+--     *-keeps         a refused call leaves both tables as they were
+--     *-sound         well-formed tables stay well formed, of the same lengths
+--     and for each action: an accepted call sets what the published action sets; the sent message, the answered slot and every byte are given.
+--     majorities-meet     a plan's majorities are as document 001 assumes them, so the theorems of paxos_commit hold at every plan
+--     readable-messages   a message in range is one of document 001's set Message
+--     rm-member, acceptor-member, leader-instance     the process and the instance of an accepted event are the plan's
+--     leader-proposal, one-owner     the value that a leader proposes; the ballots that it owns
+-- Each action is at the plan's constants; the variables that are no business of the role (`aState`, `rmState`) are any.
 -- Assumes nothing.
-use Prim.Native.Nat.{ℕ, _<_}
-use mathlib.Core.Bool.{true, false}
-use mathlib.Core.List.{List}
-use mathlib.Core.Logic.{_⊎_, _↔_}
-use mathlib.Core.Path.{_≡_}
+use Prim.Native.Nat.{ℕ, _+_, _≤_, _<_}
+use mathlib.Core.List.{List, _∷_, _++_}
+use mathlib.Core.Path.{_≡_, refl}
+use lib.ListN.{length, set}
 use Rattle.message.specs.declared.Plan.{Plan}
 use Rattle.message.specs.declared.Message as Wire
-use Rattle.message.specs.declared.Message.the-variants.{Phase1a, Phase2a, Phase2b, Decision}
-use Rattle.slots.specs.declared.Slot.the-variants.{Unused, Used}
+use Rattle.message.specs.declared.Message.the-variants.{Phase1a, Phase2a, Phase2b, Phase1b, Decision}
+use Rattle.message.specs.Outcome.{accepted, refused}
+use Rattle.message.specs.Rows.{Lowest}
+use Rattle.message.specs.Rows.Laws.{isAscending, lowest-of-ruled}
 use Rattle.slots.specs.Table.{messages}
 use Rattle.slots.specs.Send.{messageAt}
-use Rattle.event.specs.Event.{kindOf, whoOf, highOf, lowOf, slotNumber, isEvent}
-use Rattle.paxos_commit.specs.PaxosCommit.{Message, Commit, Abort, AState}
-use Rattle.paxos_commit.specs.Reading.{valOf, messageOf, setOf, rmStateOf}
-use Rattle.leader.specs.Leader.{owns, highestReport, proposal, leaderStep}
-use Rattle.matching.specs.Common.{Accepted, Enabled, HasRoom, Joined, roomOf}
-use Rattle.matching.specs.Rm.{RMPrepare, RMChooseToAbort, RMRcvCommitMsg, RMRcvAbortMsg, Judged, MayCommit, MayAbort, RmMatches, RmRefuses}
+use Rattle.change.specs.declared.Sent.the-variants.{Quiet}
+use Rattle.change.specs.Change.{Step}
+use Rattle.change.specs.Change.{refusal}
+use Rattle.event.specs.Event.{kindOf, whoOf, slotNumber, highOf, lowOf}
+use Rattle.tcommit.specs.RmState.{prepared, committed, aborted}
+use Rattle.paxos_commit.specs.PaxosCommit.{Assume, IsMessage, Commit, Abort, AState, State, Message, phase2a}
+use Rattle.rm.specs.Rm.{rmJudged, rmStep}
+use Rattle.acceptor.specs.Acceptor.{voteAt, acceptorJudged, acceptorStep}
+use Rattle.event.specs.Event.Laws.{rm-who, acceptor-who, event-instance}
+use Rattle.message.specs.Form.{isInRange}
+use Rattle.matching.specs.Reading.{isRM, isAcceptor, isMajoritySet, valOf, messageOf, setOf}
+use Rattle.matching.specs.Reading.Laws.{plan-assumes, range-is-message}
+use Rattle.matching.specs.Call.{Accepted, Sends, Stores}
+use Rattle.matching.specs.Rm.{RMPrepare, RMChooseToAbort, RMRcvCommitMsg, RMRcvAbortMsg, stateOf, rmRows}
+use Rattle.matching.specs.Rm.Ruled.{rm-ruled}
 use Rattle.matching.specs.Rm.Laws as Rm
-use Rattle.matching.specs.Acceptor.{Phase1bAction, Phase2bAction, reportOf, isTaken, AcceptorMatches, AcceptorRefuses}
-use Rattle.matching.specs.Acceptor.{Judged as AcceptorJudged}
+use Rattle.matching.specs.Acceptor.{Phase1bAction, Phase2bAction, stateOf as acceptorState, reportOf, acceptorRows}
+use Rattle.matching.specs.Acceptor.Ruled.{acceptor-ruled}
 use Rattle.matching.specs.Acceptor.Laws as Acceptor
-use Rattle.matching.specs.Leader.{Phase1aAction, Phase2aAction, CommitAction, AbortAction, isReceived, stateOf, Receipt, LeaderMatches, LeaderRefuses}
-use Rattle.matching.specs.Leader.{Judged as LeaderJudged}
+use mathlib.Core.Bool.{true}
+use Rattle.message.specs.declared.Vote.the-variants.{Cast}
+use Rattle.message.specs.Plan.{isPlan}
+use Rattle.leader.specs.Leader.{owns, leaderJudged, leaderStep}
+use Rattle.matching.specs.Leader.{Phase1aAction, Phase2aAction, CommitAction, AbortAction, proposed, Reports, leaderRows}
+use Rattle.matching.specs.Leader.{stateOf as leaderState}
+use Rattle.matching.specs.Leader.Ruled.{leader-ruled}
+use Rattle.matching.specs.Leader.Took.{took as leader-took}
 use Rattle.matching.specs.Leader.Laws as Leader
 
-pub rm-judged : (p : Plan) (states network e : List ℕ) → Judged p states network
-    ⊎ (RmRefuses p states network e 1 ⊎ (RmRefuses p states network e 2 ⊎ (RmRefuses p states network e 3 ⊎ RmRefuses p states network e 5)))
-rm-judged = Rm.judged-or-refused
+-- module PaxosCommit's ASSUME at a plan's constants
+pub majorities-meet : (p : Plan) → Assume (isRM p) (isAcceptor p) (isMajoritySet p)
+majorities-meet = plan-assumes
 
-module _ (p : Plan) (states network e : List ℕ) (aState : ℕ → ℕ → AState) (judged : Judged p states network) where
-  pub rm-no-event : isEvent p e ≡ false → RmRefuses p states network e 7
-  rm-no-event = Rm.event-refused p states network e aState judged
+pub readable-messages : (p : Plan) (m : Wire.Message) → isInRange p m ≡ true → IsMessage (isRM p) (isAcceptor p) (isMajoritySet p) (messageOf m)
+readable-messages = range-is-message
 
-  module _ (event : isEvent p e ≡ true) where
-    pub rm-prepare : kindOf e ≡ 0
-        → RmMatches p states network e aState (RMPrepare p (whoOf e)) 13 (HasRoom (roomOf network) (messages p network) (Phase2a (whoOf e) 0 1))
-    rm-prepare = Rm.prepare-match p states network e aState judged event
+module _ (p : Plan) (states network e : List ℕ) where
+  abbrev rm : Step
+  rm = rmStep p states network e
 
-    pub rm-choose-to-abort : kindOf e ≡ 1
-        → RmMatches p states network e aState (RMChooseToAbort p (whoOf e)) 13 (HasRoom (roomOf network) (messages p network) (Phase2a (whoOf e) 0 2))
-    rm-choose-to-abort = Rm.abort-match p states network e aState judged event
+  pub rm-keeps : (k : ℕ) → rm .answer ≡ refused k → rm ≡ refusal states network k
+  rm-keeps = Rm.keeps p states network e
 
-    pub rm-receive-commit : kindOf e ≡ 2 → (m : Wire.Message) → messageAt (messages p network) (slotNumber e) ≡ Used m → messageOf m ≡ Commit
-        → RmMatches p states network e aState (RMRcvCommitMsg p (whoOf e)) 11 (MayCommit (rmStateOf states (whoOf e)))
-    rm-receive-commit = Rm.commit-match p states network e aState judged event
+  pub rm-sound : rmJudged p states network ≡ accepted tt
+      → (rmJudged p (rm .table) (rm .network) ≡ accepted tt) × (length (rm .table) ≡ length states) × (length (rm .network) ≡ length network)
+  rm-sound = Rm.stays-sound p states network e
 
-    pub rm-receive-abort : kindOf e ≡ 2 → (m : Wire.Message) → messageAt (messages p network) (slotNumber e) ≡ Used m → messageOf m ≡ Abort
-        → RmMatches p states network e aState (RMRcvAbortMsg p (whoOf e)) 11 (MayAbort (rmStateOf states (whoOf e)))
-    rm-receive-abort = Rm.abortMsg-match p states network e aState judged event
+  pub rm-member : Accepted (rm .answer) → isRM p (whoOf e)
+  rm-member taken = let t = Rm.took p states network e taken in rm-who p e (t .event) (t .small)
 
-    pub rm-receive-unused : kindOf e ≡ 2 → messageAt (messages p network) (slotNumber e) ≡ Unused → RmRefuses p states network e 8
-    rm-receive-unused = Rm.unused-refused p states network e aState judged event
+  module _ (aState : ℕ → ℕ → AState) where
+    pub rm-answers : Lowest (rmRows p states network e (stateOf p states network aState)) (rm .answer)
+    unfolding isAscending
+    rm-answers = lowest-of-ruled _ refl _ (rm-ruled p states network e aState)
 
-    pub rm-receive-other : kindOf e ≡ 2 → (m : Wire.Message) → messageAt (messages p network) (slotNumber e) ≡ Used m
-        → (messageOf m ≡ Commit → ⊥) → (messageOf m ≡ Abort → ⊥) → RmRefuses p states network e 9
-    rm-receive-other = Rm.other-refused p states network e aState judged event
+    module _ (taken : Accepted (rm .answer)) where
+      -- kind 0: RMPrepare; W changes at `who` alone, and 2a(who, 0, prepared) is sent
+      pub rm-prepare : kindOf e ≡ 0
+          → RMPrepare p (whoOf e) (stateOf p states network aState) (stateOf p (rm .table) (rm .network) aState)
+          × Sends p network (Phase2a (whoOf e) 0 1) (rm .answer) (rm .network)
+          × (rm .table ≡ set states (whoOf e) prepared)
+      rm-prepare kind = Rm.prepare-acts p states network e aState (Rm.took p states network e taken) kind .0
 
-    pub rm-other-kind : 2 < kindOf e → RmRefuses p states network e 7
-    rm-other-kind = Rm.kind-refused p states network e aState judged event
+      -- kind 1: RMChooseToAbort
+      pub rm-choose-to-abort : kindOf e ≡ 1
+          → RMChooseToAbort p (whoOf e) (stateOf p states network aState) (stateOf p (rm .table) (rm .network) aState)
+          × Sends p network (Phase2a (whoOf e) 0 2) (rm .answer) (rm .network)
+          × (rm .table ≡ set states (whoOf e) aborted)
+      rm-choose-to-abort kind = Rm.abort-acts p states network e aState (Rm.took p states network e taken) kind .0
 
-pub acceptor-judged : (p : Plan) (votes network e : List ℕ) → AcceptorJudged p votes network
-    ⊎ (AcceptorRefuses p votes network e 1 ⊎ (AcceptorRefuses p votes network e 2 ⊎ (AcceptorRefuses p votes network e 4 ⊎ AcceptorRefuses p votes network e 5)))
-acceptor-judged = Acceptor.judged-or-refused
+      -- kind 2: RMRcvCommitMsg or RMRcvAbortMsg, quiet; N keeps its bytes
+      module _ (kind : kindOf e ≡ 2) (m : Wire.Message) (slot : messageAt (messages p network) (slotNumber e) ≡ accepted m) where
+        pub rm-receive-commit : messageOf m ≡ Commit
+            → RMRcvCommitMsg p (whoOf e) (stateOf p states network aState) (stateOf p (rm .table) (rm .network) aState)
+            × (rm .answer ≡ accepted Quiet)
+            × (rm .table ≡ set states (whoOf e) committed)
+            × (rm .network ≡ network)
+        rm-receive-commit = Rm.commit-acts p states network e aState (Rm.took p states network e taken) kind m slot
 
-module _ (p : Plan) (votes network e : List ℕ) (rmState : ℕ → ℕ) (judged : AcceptorJudged p votes network) where
-  pub acceptor-no-event : isEvent p e ≡ false → AcceptorRefuses p votes network e 7
-  acceptor-no-event = Acceptor.event-refused p votes network judged rmState e
+        pub rm-receive-abort : messageOf m ≡ Abort
+            → RMRcvAbortMsg p (whoOf e) (stateOf p states network aState) (stateOf p (rm .table) (rm .network) aState)
+            × (rm .answer ≡ accepted Quiet)
+            × (rm .table ≡ set states (whoOf e) aborted)
+            × (rm .network ≡ network)
+        rm-receive-abort = Rm.abortMsg-acts p states network e aState (Rm.took p states network e taken) kind m slot
 
-  module _ (event : isEvent p e ≡ true) where
-    pub acceptor-phase1b : kindOf e ≡ 3 → (ins bal : ℕ) → messageAt (messages p network) (slotNumber e) ≡ Used (Phase1a ins bal)
-        → AcceptorMatches p votes network e rmState (Phase1bAction p (whoOf e) ins bal) 13 (HasRoom (roomOf network) (messages p network) (reportOf p votes (whoOf e) ins bal))
-    acceptor-phase1b = Acceptor.phase1b-match p votes network judged rmState e event
+-- the acceptor; by rows 7 and 9 an accepted call is of kind 3, and its slot holds a 1a or a 2a
+module _ (p : Plan) (votes network e : List ℕ) where
+  abbrev acceptor : Step
+  acceptor = acceptorStep p votes network e
 
-    pub acceptor-phase2b : kindOf e ≡ 3 → (ins bal val : ℕ) → messageAt (messages p network) (slotNumber e) ≡ Used (Phase2a ins bal val)
-        → AcceptorMatches p votes network e rmState (Phase2bAction p (whoOf e) ins bal (valOf val)) 13 (HasRoom (roomOf network) (messages p network) (Phase2b ins (whoOf e) bal val))
-    acceptor-phase2b = Acceptor.phase2b-match p votes network judged rmState e event
+  pub acceptor-keeps : (k : ℕ) → acceptor .answer ≡ refused k → acceptor ≡ refusal votes network k
+  acceptor-keeps = Acceptor.keeps p votes network e
 
-    pub acceptor-unused : kindOf e ≡ 3 → messageAt (messages p network) (slotNumber e) ≡ Unused → AcceptorRefuses p votes network e 8
-    acceptor-unused = Acceptor.unused-refused p votes network judged rmState e event
+  pub acceptor-sound : acceptorJudged p votes network ≡ accepted tt
+      → (acceptorJudged p (acceptor .table) (acceptor .network) ≡ accepted tt)
+      × (length (acceptor .table) ≡ length votes)
+      × (length (acceptor .network) ≡ length network)
+  acceptor-sound = Acceptor.stays-sound p votes network e
 
-    pub acceptor-other : kindOf e ≡ 3 → (m : Wire.Message) → messageAt (messages p network) (slotNumber e) ≡ Used m → isTaken m ≡ false → AcceptorRefuses p votes network e 9
-    acceptor-other = Acceptor.other-refused p votes network judged rmState e event
+  pub acceptor-member : Accepted (acceptor .answer) → isAcceptor p (whoOf e)
+  acceptor-member taken = let t = Acceptor.took p votes network e taken in acceptor-who p e (t .event) (t .kind)
 
-    pub acceptor-other-kind : (kindOf e ≡ 3 → ⊥) → AcceptorRefuses p votes network e 7
-    acceptor-other-kind = Acceptor.kind-refused p votes network judged rmState e event
+  -- the first of the three bytes of Q of the instance and the acceptor: mbal, bal, val
+  abbrev at : ℕ → ℕ
+  at ins = voteAt p ins (whoOf e)
 
-pub leader-judged : (p : Plan) (inbox network e : List ℕ) → LeaderJudged p inbox network
-    ⊎ (LeaderRefuses p inbox network e 1 ⊎ (LeaderRefuses p inbox network e 2 ⊎ (LeaderRefuses p inbox network e 5 ⊎ LeaderRefuses p inbox network e 6)))
-leader-judged = Leader.judged-or-refused
+  module _ (rmState : ℕ → ℕ) where
+    abbrev voteState : List ℕ → List ℕ → State
+    voteState votes′ network′ = acceptorState p votes′ network′ rmState
 
-module _ (p : Plan) (inbox network e : List ℕ) (rmState : ℕ → ℕ) (aState : ℕ → ℕ → AState) (judged : LeaderJudged p inbox network) where
-  pub leader-no-event : isEvent p e ≡ false → LeaderRefuses p inbox network e 7
-  leader-no-event = Leader.event-refused p inbox network judged rmState aState e
+    pub acceptor-answers : Lowest (acceptorRows p votes network e (voteState votes network)) (acceptor .answer)
+    unfolding isAscending
+    acceptor-answers = lowest-of-ruled _ refl _ (acceptor-ruled p votes network e rmState)
 
-  module _ (event : isEvent p e ≡ true) where
-    pub leader-receipt : kindOf e ≡ 4 → (m : Wire.Message) → messageAt (messages p network) (slotNumber e) ≡ Used m → isReceived m ≡ true
-        → Receipt p inbox network m (leaderStep p inbox network e)
-    leader-receipt = Leader.receipt-match p inbox network judged rmState aState e event
+    module _ (taken : Accepted (acceptor .answer)) where
+      -- a 1a: Phase1b; mbal becomes its ballot, no other byte of Q changes, and a 1b with the acceptor's last vote is sent
+      pub acceptor-phase1b : (ins bal : ℕ) → messageAt (messages p network) (slotNumber e) ≡ accepted (Phase1a ins bal)
+          → Phase1bAction p (whoOf e) ins bal (voteState votes network) (voteState (acceptor .table) (acceptor .network))
+          × Sends p network (reportOf p votes (whoOf e) ins bal) (acceptor .answer) (acceptor .network)
+          × (acceptor .table ≡ set votes (at ins) bal)
+      acceptor-phase1b ins bal slot = Acceptor.phase1b-acts p votes network e (Acceptor.took p votes network e taken) ins bal slot rmState
 
-    pub leader-unused : kindOf e ≡ 4 → messageAt (messages p network) (slotNumber e) ≡ Unused → LeaderRefuses p inbox network e 8
-    leader-unused = Leader.unused-refused p inbox network judged rmState aState e event
+      -- a 2a: Phase2b; mbal and bal become its ballot, val its value, and a 2b is sent
+      pub acceptor-phase2b : (ins bal val : ℕ) → messageAt (messages p network) (slotNumber e) ≡ accepted (Phase2a ins bal val)
+          → Phase2bAction p (whoOf e) ins bal (valOf val) (voteState votes network) (voteState (acceptor .table) (acceptor .network))
+          × Sends p network (Phase2b ins (whoOf e) bal val) (acceptor .answer) (acceptor .network)
+          × (acceptor .table ≡ set (set (set votes (at ins) bal) (at ins + 1) bal) (at ins + 2) val)
+      acceptor-phase2b ins bal val slot = Acceptor.phase2b-acts p votes network e (Acceptor.took p votes network e taken) ins bal val slot rmState
 
-    pub leader-other : kindOf e ≡ 4 → (m : Wire.Message) → messageAt (messages p network) (slotNumber e) ≡ Used m → isReceived m ≡ false → LeaderRefuses p inbox network e 9
-    leader-other = Leader.other-refused p inbox network judged rmState aState e event
+-- a leader; `seen` is the set of messages in its inbox
+module _ (p : Plan) (inbox network e : List ℕ) where
+  abbrev leader : Step
+  leader = leaderStep p inbox network e
 
-    pub leader-phase1a : kindOf e ≡ 5
-        → LeaderMatches p inbox network e rmState aState (Phase1aAction p (lowOf e) (highOf e))
-        ((owns p (whoOf e) (lowOf e) ≡ true) × HasRoom (roomOf network) (messages p network) (Phase1a (highOf e) (lowOf e)))
-    leader-phase1a = Leader.phase1a-match p inbox network judged rmState aState e event
+  abbrev seen : Message → Type 0
+  seen = setOf (messages p inbox)
 
-    -- the 2a that is proposed: 2 where no vote is reported, else the value at the highest ballot
-    abbrev pub proposed : Wire.Message
-    proposed = Phase2a (highOf e) (lowOf e) (proposal (highestReport (highOf e) (lowOf e) (messages p inbox)))
+  pub leader-keeps : (k : ℕ) → leader .answer ≡ refused k → leader ≡ refusal inbox network k
+  leader-keeps = Leader.keeps p inbox network e
 
-    pub leader-phase2a : kindOf e ≡ 6
-        → LeaderMatches p inbox network e rmState aState (Phase2aAction p (setOf (messages p inbox)) (lowOf e) (highOf e))
-        ((owns p (whoOf e) (lowOf e) ≡ true) × (HasRoom (roomOf network) (messages p network) proposed × HasRoom (roomOf inbox) (messages p inbox) proposed))
-    leader-phase2a = Leader.phase2a-match p inbox network judged rmState aState e event
+  pub leader-sound : leaderJudged p inbox network ≡ accepted tt
+      → (leaderJudged p (leader .table) (leader .network) ≡ accepted tt)
+      × (length (leader .table) ≡ length inbox)
+      × (length (leader .network) ≡ length network)
+  leader-sound = Leader.stays-sound p inbox network e
 
-    pub leader-phase2a-sent : kindOf e ≡ 6 → Accepted (leaderStep p inbox network e) → (x : Message)
-        → (setOf (messages p (leaderStep p inbox network e .network)) x ↔ Joined (messages p network) proposed x)
-        × (setOf (messages p (leaderStep p inbox network e .table)) x ↔ Joined (messages p inbox) proposed x)
-    leader-phase2a-sent = Leader.phase2a-joins p inbox network judged rmState aState e event
+  -- kinds 5 and 6
+  pub leader-instance : Accepted (leader .answer) → 4 < kindOf e → kindOf e ≤ 6 → isRM p (highOf e)
+  leader-instance taken = event-instance p e (leader-took p inbox network e taken .event)
 
-    pub leader-commit : kindOf e ≡ 7
-        → LeaderMatches p inbox network e rmState aState (CommitAction p (setOf (messages p inbox))) (HasRoom (roomOf network) (messages p network) (Decision 1))
-    leader-commit = Leader.commit-match p inbox network judged rmState aState e event
+  -- the 2a that kind 6 proposes: of several highest reports in the inbox the first
+  pub leader-proposal : (xs ys : List Wire.Message) (a c v : ℕ) → messages p inbox ≡ xs ++ (Phase1b (highOf e) a (lowOf e) (Cast c v) ∷ ys)
+      → ((d : ℕ) → Reports xs (highOf e) (lowOf e) d → d < c)
+      → ((d : ℕ) → Reports ys (highOf e) (lowOf e) d → d ≤ c)
+      → proposed p inbox e ≡ Phase2a (highOf e) (lowOf e) v
+  leader-proposal = Leader.proposal-first p inbox network e
 
-    pub leader-abort : kindOf e ≡ 8
-        → LeaderMatches p inbox network e rmState aState (AbortAction p (setOf (messages p inbox))) (HasRoom (roomOf network) (messages p network) (Decision 2))
-    leader-abort = Leader.abort-match p inbox network judged rmState aState e event
+  -- and aborted where no vote is reported
+  pub leader-proposal-none : ((d : ℕ) → Reports (messages p inbox) (highOf e) (lowOf e) d → ⊥)
+      → proposed p inbox e ≡ Phase2a (highOf e) (lowOf e) 2
+  leader-proposal-none = Leader.proposal-none p inbox network e
 
-    -- the numbers, in the order of the rows
-    pub leader-phase1a-10 : kindOf e ≡ 5 → owns p (whoOf e) (lowOf e) ≡ false → LeaderRefuses p inbox network e 10
-    leader-phase1a-10 = Leader.phase1a-10 p inbox network judged rmState aState e event
+  module _ (rmState : ℕ → ℕ) (aState : ℕ → ℕ → AState) where
+    pub leader-answers : Lowest (leaderRows p inbox network e (leaderState p network rmState aState)) (leader .answer)
+    unfolding isAscending
+    leader-answers = lowest-of-ruled _ refl _ (leader-ruled p inbox network e rmState aState)
 
-    pub leader-phase1a-13 : kindOf e ≡ 5 → owns p (whoOf e) (lowOf e) ≡ true → (HasRoom (roomOf network) (messages p network) (Phase1a (highOf e) (lowOf e)) → ⊥) → LeaderRefuses p inbox network e 13
-    leader-phase1a-13 = Leader.phase1a-13 p inbox network judged rmState aState e event
+    module _ (taken : Accepted (leader .answer)) where
+      -- kind 4: quiet; N keeps its bytes, and the inbox gains the message in the slot
+      pub leader-receipt : kindOf e ≡ 4 → (m : Wire.Message) → messageAt (messages p network) (slotNumber e) ≡ accepted m
+          → (leader .answer ≡ accepted Quiet)
+          × (leader .network ≡ network)
+          × Stores p inbox m (leader .table)
+      leader-receipt = Leader.receipt-acts p inbox network e rmState aState (leader-took p inbox network e taken)
 
-    pub leader-phase2a-10 : kindOf e ≡ 6 → owns p (whoOf e) (lowOf e) ≡ false → LeaderRefuses p inbox network e 10
-    leader-phase2a-10 = Leader.phase2a-10 p inbox network judged rmState aState e event
+      -- kind 5: Phase1a
+      pub leader-phase1a : kindOf e ≡ 5
+          → Phase1aAction p (lowOf e) (highOf e) (leaderState p network rmState aState) (leaderState p (leader .network) rmState aState)
+          × Sends p network (Phase1a (highOf e) (lowOf e)) (leader .answer) (leader .network)
+          × (leader .table ≡ inbox)
+      leader-phase1a kind = Leader.phase1a-acts p inbox network e rmState aState (leader-took p inbox network e taken) kind .0
 
-    module _ (own : owns p (whoOf e) (lowOf e) ≡ true) where
-      pub leader-phase2a-12 : kindOf e ≡ 6 → (Enabled p (Phase2aAction p (setOf (messages p inbox)) (lowOf e) (highOf e)) (stateOf p network rmState aState) → ⊥) → LeaderRefuses p inbox network e 12
-      leader-phase2a-12 kind = Leader.phase2a-12 p inbox network judged rmState aState e event kind own
+      -- kind 6: Phase2a, its conditions read from the inbox; what the action sends, what N gains and what the inbox gains is one message
+      pub leader-phase2a : kindOf e ≡ 6
+          → (acts : Phase2aAction p seen (lowOf e) (highOf e) (leaderState p network rmState aState) (leaderState p (leader .network) rmState aState))
+          × (phase2a (highOf e) (lowOf e) (acts .1 .2) ≡ messageOf (proposed p inbox e))
+          × Sends p network (proposed p inbox e) (leader .answer) (leader .network)
+          × Stores p inbox (proposed p inbox e) (leader .table)
+      leader-phase2a kind = Leader.phase2a-acts p inbox network e rmState aState (leader-took p inbox network e taken) kind .0
 
-      pub leader-phase2a-13 : kindOf e ≡ 6 → Enabled p (Phase2aAction p (setOf (messages p inbox)) (lowOf e) (highOf e)) (stateOf p network rmState aState)
-          → (HasRoom (roomOf network) (messages p network) proposed → ⊥) → LeaderRefuses p inbox network e 13
-      leader-phase2a-13 kind = Leader.phase2a-13 p inbox network judged rmState aState e event kind own
+      -- kind 7: Decide to commit
+      pub leader-commit : kindOf e ≡ 7
+          → CommitAction p seen (leaderState p network rmState aState) (leaderState p (leader .network) rmState aState)
+          × Sends p network (Decision 1) (leader .answer) (leader .network)
+          × (leader .table ≡ inbox)
+      leader-commit kind = Leader.commit-acts p inbox network e rmState aState (leader-took p inbox network e taken) kind .0
 
-      pub leader-phase2a-14 : kindOf e ≡ 6 → Enabled p (Phase2aAction p (setOf (messages p inbox)) (lowOf e) (highOf e)) (stateOf p network rmState aState)
-          → HasRoom (roomOf network) (messages p network) proposed → (HasRoom (roomOf inbox) (messages p inbox) proposed → ⊥) → LeaderRefuses p inbox network e 14
-      leader-phase2a-14 kind = Leader.phase2a-14 p inbox network judged rmState aState e event kind own
+      -- kind 8: Decide to abort
+      pub leader-abort : kindOf e ≡ 8
+          → AbortAction p seen (leaderState p network rmState aState) (leaderState p (leader .network) rmState aState)
+          × Sends p network (Decision 2) (leader .answer) (leader .network)
+          × (leader .table ≡ inbox)
+      leader-abort kind = Leader.abort-acts p inbox network e rmState aState (leader-took p inbox network e taken) kind .0
 
-    pub leader-commit-12 : kindOf e ≡ 7 → (Enabled p (CommitAction p (setOf (messages p inbox))) (stateOf p network rmState aState) → ⊥) → LeaderRefuses p inbox network e 12
-    leader-commit-12 = Leader.commit-12 p inbox network judged rmState aState e event
+-- a ballot above 0 has exactly one owner among the leaders of the plan
+pub one-owner : (p : Plan) → isPlan p ≡ true → (b : ℕ) → 0 < b
+    → (l : ℕ) × (l < p .leaders) × (owns p l b ≡ true) × ((k : ℕ) → owns p k b ≡ true → k ≡ l)
+one-owner = Leader.owner-one
 
-    pub leader-commit-13 : kindOf e ≡ 7 → Enabled p (CommitAction p (setOf (messages p inbox))) (stateOf p network rmState aState)
-        → (HasRoom (roomOf network) (messages p network) (Decision 1) → ⊥) → LeaderRefuses p inbox network e 13
-    leader-commit-13 = Leader.commit-13 p inbox network judged rmState aState e event
-
-    pub leader-abort-12 : kindOf e ≡ 8 → (Enabled p (AbortAction p (setOf (messages p inbox))) (stateOf p network rmState aState) → ⊥) → LeaderRefuses p inbox network e 12
-    leader-abort-12 = Leader.abort-12 p inbox network judged rmState aState e event
-
-    pub leader-abort-13 : kindOf e ≡ 8 → Enabled p (AbortAction p (setOf (messages p inbox))) (stateOf p network rmState aState)
-        → (HasRoom (roomOf network) (messages p network) (Decision 2) → ⊥) → LeaderRefuses p inbox network e 13
-    leader-abort-13 = Leader.abort-13 p inbox network judged rmState aState e event
-
-    pub leader-inbox : (kindOf e ≡ 5) ⊎ ((kindOf e ≡ 7) ⊎ (kindOf e ≡ 8)) → leaderStep p inbox network e .table ≡ inbox
-    leader-inbox = Leader.inbox-kept p inbox network judged rmState aState e event
-
-    pub leader-other-kind : kindOf e < 4 → LeaderRefuses p inbox network e 7
-    leader-other-kind = Leader.kind-refused p inbox network judged rmState aState e event
+-- ballot 0 has none
+pub no-owner : (p : Plan) (l : ℕ) → owns p l 0 ≡ true → ⊥
+no-owner = Leader.owner-none

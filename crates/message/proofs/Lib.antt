@@ -1,5 +1,3 @@
 -- The proofs that belong to no one function.
 --     Guards   the rule set that turns the tests on the way to a `return` into a definition's guards
---     Theorems the byte form, whole: demand 2's last sentence
 pub mod Guards
-pub mod Theorems

@@ -3,6 +3,7 @@
 --     writeMessage                 the writer's answer: the number, six bytes and a length, all zero if it refuses
 -- Their laws are in Codec/Laws.antt. Assumes nothing.
 pub mod Laws
+pub mod Answers
 use Prim.Native.Nat.{ℕ}
 use mathlib.Core.Bool.{not}
 use mathlib.Core.List.{List}
@@ -33,13 +34,13 @@ readOutcome (Reads.Message m) = accepted m
 readOutcome (Reads.Refused number) = refused number
 
 -- the writer's answer: number 0, the message followed by zeros and its length; or the number, six zeros and 0
-abbrev pub written : Outcome Message → Written
-written (accepted m) = record { number = 0; bytes = slotOf m; len = messageLength m }
-written (refused number) = record { number = number; bytes = replicate slotSize 0; len = 0 }
+abbrev pub written : Plan → Outcome Message → Written
+written p (accepted m) = record { number = 0; bytes = slotOf p m; len = messageLength p m }
+written p (refused number) = record { number = number; bytes = replicate slotSize 0; len = 0 }
 
 -- the writer
 unfoldable pub writeMessage : Plan → Message → Written
 writeMessage p m =
-    written (refuseIf (not (isPlan p)) 1
+    written p (refuseIf (not (isPlan p)) 1
     (refuseIf (not (isInRange p m)) 17
     (accepted m)))

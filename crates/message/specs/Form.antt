@@ -39,25 +39,25 @@ unfoldable pub bytesOf1b : ℕ → ℕ → ℕ → Vote → List ℕ
 bytesOf1b ins acc mbal None = 0x07 ∷ ins ∷ acc ∷ mbal ∷ []
 bytesOf1b ins acc mbal (Cast bal val) = 0x1F ∷ ins ∷ acc ∷ mbal ∷ bal ∷ val ∷ []
 
--- the bytes of a message: the map, whose bits 0 to 4 stand for ins, acc, mbal, bal and val, then a byte for each bit that stands
-unfoldable pub bytesOf : Message → List ℕ
-bytesOf (Phase1a ins bal) = 0x09 ∷ ins ∷ bal ∷ []
-bytesOf (Phase1b ins acc mbal vote) = bytesOf1b ins acc mbal vote
-bytesOf (Phase2a ins bal val) = 0x19 ∷ ins ∷ bal ∷ val ∷ []
-bytesOf (Phase2b ins acc bal val) = 0x1B ∷ ins ∷ acc ∷ bal ∷ val ∷ []
-bytesOf (Decision val) = 0x10 ∷ val ∷ []
+-- the bytes of a message under a plan: the map, whose bits 0 to 4 stand for ins, acc, mbal, bal and val, then a byte for each bit
+unfoldable pub bytesOf : Plan → Message → List ℕ
+bytesOf p (Phase1a ins bal) = 0x09 ∷ ins ∷ bal ∷ []
+bytesOf p (Phase1b ins acc mbal vote) = bytesOf1b ins acc mbal vote
+bytesOf p (Phase2a ins bal val) = 0x19 ∷ ins ∷ bal ∷ val ∷ []
+bytesOf p (Phase2b ins acc bal val) = 0x1B ∷ ins ∷ acc ∷ bal ∷ val ∷ []
+bytesOf p (Decision val) = 0x10 ∷ val ∷ []
 
 -- how many bytes a message has
-unfoldable pub messageLength : Message → ℕ
-messageLength m = length (bytesOf m)
+unfoldable pub messageLength : Plan → Message → ℕ
+messageLength p m = length (bytesOf p m)
 
 -- the bytes of a slot
 abbrev pub slotSize : ℕ
 slotSize = 6
 
 -- a message followed by zeros, as it stands in a slot
-unfoldable pub slotOf : Message → List ℕ
-slotOf m = bytesOf m ++ replicate (slotSize - messageLength m) 0
+unfoldable pub slotOf : Plan → Message → List ℕ
+slotOf p m = bytesOf p m ++ replicate (slotSize - messageLength p m) 0
 
 -- the constant table: entry `map` is the length of the message that `map` begins, and 0 for an unknown map
 unfoldable pub mapLengths : List ℕ

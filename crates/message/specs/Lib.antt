@@ -3,7 +3,11 @@
 --     Plan      the plan and its range (refusal 1)
 --     Form      messages, their ranges (refusal 17) and their bytes
 --     Codec     the reader and the writer
+--     Rows      the rows of "Refusals by place" for a call: the lowest number that applies
+--     Theorems  the one byte form, and what reader and writer answer
 pub mod Outcome
 pub mod Plan
 pub mod Form
 pub mod Codec
+pub mod Rows
+pub mod Theorems

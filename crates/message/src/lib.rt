@@ -2,19 +2,18 @@
 //
 //     Plan, is_plan                  the three counts, and refusal 1
 //     Message, Vote                  the messages of the protocol; the vote report of a 1b
-//     SLOT_SIZE, map_length          the bytes of a slot; the length that a bit map stands for
+//     SLOT_SIZE, map_length, map_lengths   the bytes of a slot; the length that a bit map stands for, and of all maps
 //     is_value, in_range             the ranges of the fields, and refusal 17
-//     byte_at, decode_message        the bytes of a slot that was judged before
+//     byte_at, decode_message        a byte or 0 past the end; the message that the bytes of a known map make
 //     Read, read_message, read_refusal   the reader
 //     encode, Written, write_message the byte form by itself, and the writer
 //
 // What each of them means stands in specs/.
 ghost use mathlib.Core.Path.{_≡_};
-ghost use Prim.Native.Nat.{ℕ};
 ghost use lib.ListN.{getD};
 ghost use Rattle.message.specs.Outcome.{numberOf};
 ghost use Rattle.message.specs.Plan.{isPlan};
-ghost use Rattle.message.specs.Form.{isValue, isVote, isInRange, slotOf, messageLength, mapLength, fieldsMessage, decode};
+ghost use Rattle.message.specs.Form.{isValue, isVote, isInRange, slotOf, mapLengths, mapLength, fieldsMessage, decode};
 ghost use Rattle.message.specs.Codec.{readOutcome, readMessage, writeMessage};
 
 // The plan of an order: how many resource managers (document 01: weights), acceptors and leaders it has.
@@ -87,7 +86,7 @@ pub enum Message {
 pub const SLOT_SIZE: usize = 6;
 
 // The length of the message that a bit map begins, 0 for an unknown map (document 01's constant table of 32 entries).
-const MAP_LENGTHS: [usize; 32] = [
+const MAP_LENGTHS: [u8; 32] = [
     0,
     0,
     0,
@@ -122,6 +121,13 @@ const MAP_LENGTHS: [usize; 32] = [
     6,
 ];
 
+// The whole table, for a caller that looks up many maps.
+pub fn map_lengths() -> [u8; 32]
+    ensures { λ r. ⌜ r ≡ mapLengths ⌝ }
+{
+    MAP_LENGTHS
+}
+
 // The length that a first byte stands for: the table's entry, or 0 past its end.
 pub fn map_length(map: u8) -> usize
     ensures { λ r. ⌜ r ≡ mapLength map ⌝ }
@@ -130,7 +136,7 @@ pub fn map_length(map: u8) -> usize
     if 32 <= index {
         return 0;
     }
-    MAP_LENGTHS[index]
+    MAP_LENGTHS[index] as usize
 }
 
 // Whether a byte is a value: 1 prepared or 2 aborted.
@@ -207,7 +213,7 @@ pub fn in_range(plan: Plan, m: Message) -> bool
     }
 }
 
-// The reader's answer: the message, or the refusal's number.
+// A message, or a refusal's number: the reader's answer, a slot's, and what a leader would propose.
 pub enum Read {
     Message(Message),
     Refused(u8),
@@ -310,8 +316,8 @@ pub fn read_refusal(answer: Read) -> u8
     }
 }
 
-fn encode_1b(ins: u8, acc: u8, mbal: u8, vote: Vote) -> [u8; SLOT_SIZE]
-    ensures { λ r. ⌜ r ≡ slotOf (Message.Phase1b ins acc mbal vote) ⌝ }
+fn encode_1b(plan: Plan, ins: u8, acc: u8, mbal: u8, vote: Vote) -> [u8; SLOT_SIZE]
+    ensures { λ r. ⌜ r ≡ slotOf plan (Message.Phase1b ins acc mbal vote) ⌝ }
 {
     match vote {
         Vote::None => [0x07, ins, acc, mbal, 0, 0],
@@ -319,9 +325,9 @@ fn encode_1b(ins: u8, acc: u8, mbal: u8, vote: Vote) -> [u8; SLOT_SIZE]
     }
 }
 
-// A message followed by zeros, as it stands in a slot. It judges nothing.
-pub fn encode(m: Message) -> [u8; SLOT_SIZE]
-    ensures { λ r. ⌜ r ≡ slotOf m ⌝ }
+// A message followed by zeros, as it stands in a slot of the plan's record. It judges nothing.
+pub fn encode(plan: Plan, m: Message) -> [u8; SLOT_SIZE]
+    ensures { λ r. ⌜ r ≡ slotOf plan m ⌝ }
 {
     match m {
         Message::Phase1a { ins, bal } => [0x09, ins, bal, 0, 0, 0],
@@ -330,7 +336,7 @@ pub fn encode(m: Message) -> [u8; SLOT_SIZE]
             acc,
             mbal,
             vote,
-        } => encode_1b(ins, acc, mbal, vote),
+        } => encode_1b(plan, ins, acc, mbal, vote),
         Message::Phase2a { ins, bal, val } => [0x19, ins, bal, val, 0, 0],
         Message::Phase2b { ins, acc, bal, val } => [0x1B, ins, acc, bal, val, 0],
         Message::Decision { val } => [0x10, val, 0, 0, 0, 0],
@@ -362,7 +368,7 @@ pub fn write_message(plan: Plan, m: Message) -> Written
             len: 0,
         };
     }
-    let bytes = encode(m);
+    let bytes = encode(plan, m);
     Written {
         number: 0,
         bytes,

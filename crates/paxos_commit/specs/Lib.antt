@@ -1,7 +1,5 @@
--- The published specification, and how the bytes of a record are read as its variables.
---     PaxosCommit   module PaxosCommit of document 001 (A.3)
---     Quorum        sets of acceptors, their size and majorities
---     Reading       W, Q and the messages of N and of an inbox as rmState, aState and sets of messages
+-- The published specification of Paxos Commit, and its safety at every size.
+--     PaxosCommit   module PaxosCommit of document 001 (A.3); below it, PaxosCommit/Safety.antt: the invariant, and that every action keeps it
+--     Theorems      the theorems of modules TCommit and PaxosCommit, and agreement
 pub mod PaxosCommit
-pub mod Quorum
-pub mod Reading
+pub mod Theorems

@@ -1,29 +1,31 @@
--- Module PaxosCommit of document 001 (A.3), in its order and under its names, without PCTypeOK and PCSpec. A set is a predicate, a set of
--- acceptors a test on their numbers, and an action a relation between the state before it and after it. What is written otherwise than
--- on the page: Ballot is the set of all numbers; a state of a resource manager is its number; CHOOSE is "some"; Phase2a and Decide are
--- first given over a set `seen` of messages, from which a leader reads its conditions, and with `seen` the set msgs they are the
--- source's; Phase1b and Phase2b are first given for one message. That any two majorities meet, which the source assumes, is
--- `quorums-meet` in Quorum/Laws.antt.
+-- Module PaxosCommit of document 001 (A.3), in its order and under its names. A set is a predicate, a set of acceptors a test on their
+-- numbers, an action a relation between the state before it and after it, and a behaviour a state for each time. What is written
+-- otherwise than on the page: Ballot is the set of all numbers; a state of a resource manager is its number; CHOOSE is "some"; Phase2a is
+-- first given over a set `seen` of messages, from which a leader reads its conditions, and Decide over what counts as decided: read
+-- from msgs they are the source's; Phase1b and Phase2b are first given for one message. Its theorems are in Theorems.antt.
 --     Bal, Maximum                     Ballot ∪ {-1}, and the maximum of a set of them
---     Message                          the fields of each type of message; their ranges are the reader's (document 01)
---     State                            the variables rmState, aState and msgs
---     PCInit, Send                     the initial predicate, and sending
+--     Assume                           ASSUME; of it the theorems use MajoritiesMeet alone
+--     Message, IsMessage               the fields of each type of message, and their ranges
+--     State, PCTypeOK, PCInit, Send    the variables rmState, aState and msgs; their ranges, the initial predicate, and sending
 --     RMPrepare, RMChooseToAbort, RMRcvCommitMsg, RMRcvAbortMsg
---     Phase1a, Phase2a, Decide, Phase1b, Phase2b, PCNext
+--     Phase1a, Phase2a, Decide, Phase1b, Phase2b, PCNext, PCStep, PCSpec
 --     Enabled                          an action that some next state satisfies
 -- Assumes nothing.
-use Prim.Native.Nat.{ℕ, _≤_, _<_}
+pub mod Laws
+pub mod Safety
+use Prim.Native.Nat.{ℕ, suc, _≤_, _<_}
 use mathlib.Core.Bool.{Bool, true, _&&_, cond}
 use mathlib.Core.Logic.{_⊎_, _↔_}
 use mathlib.Core.Path.{_≡_}
 use lib.Dec.{eqb}
 use Rattle.tcommit.specs.RmState.{working, committed}
 use Rattle.tcommit.specs.RmState as RmState
-use Rattle.tcommit.specs.TCommit.{except}
+use Rattle.tcommit.specs.TCommit.{except, TCTypeOK}
 
 -- {"prepared", "aborted", "none"}
 pub data Val : Type 0 where
   prepared aborted none : Val
+  deriving Discrete as Val-discrete
 
 -- Ballot ∪ {-1}
 pub data Bal : Type 0 where
@@ -67,6 +69,27 @@ except₂ f ins acc v = λ i a. cond (eqb i ins && eqb a acc) v (f i a)
 
 -- CONSTANT RM, Acceptor, Majority; Ballot is the set of all numbers
 module _ (RM Acceptor : ℕ → Type 0) (Majority : (ℕ → Bool) → Type 0) where
+  -- any two majorities have a member in common
+  abbrev pub MajoritiesMeet : Type 0
+  MajoritiesMeet = (MS1 MS2 : ℕ → Bool) → Majority MS1 → Majority MS2 → (ac : ℕ) × (MS1 ac ≡ true) × (MS2 ac ≡ true)
+
+  -- ASSUME: majorities are sets of acceptors, and any two meet
+  abbrev pub Assume : Type 0
+  Assume = ((MS : ℕ → Bool) → Majority MS → (ac : ℕ) → MS ac ≡ true → Acceptor ac) × MajoritiesMeet
+
+  -- the set Message; ballots, and the value and the ballot of a report, are in range by their types
+  abbrev pub IsMessage : Message → Type 0
+  IsMessage (phase1a ins bal) = RM ins × (0 < bal)
+  IsMessage (phase1b ins mbal bal val acc) = RM ins × Acceptor acc
+  IsMessage (phase2a ins bal val) = RM ins × ((val ≡ prepared) ⊎ (val ≡ aborted))
+  IsMessage (phase2b acc ins bal val) = Acceptor acc × RM ins × ((val ≡ prepared) ⊎ (val ≡ aborted))
+  IsMessage Commit = Unit {0}
+  IsMessage Abort = Unit {0}
+
+  -- aState is in range by its type
+  abbrev pub PCTypeOK : State → Type 0
+  PCTypeOK s = TCTypeOK RM (s .rmState) × ((m : Message) → s .msgs m → IsMessage m)
+
   abbrev pub PCInit : State → Type 0
   PCInit s =
       ((rm : ℕ) → RM rm → s .rmState rm ≡ working)
@@ -140,16 +163,17 @@ module _ (RM Acceptor : ℕ → Type 0) (Majority : (ℕ → Bool) → Type 0) w
   abbrev pub Decided : (Message → Type 0) → ℕ → Val → Type 0
   Decided seen rm v = (b : ℕ) × (MS : ℕ → Bool) × Majority MS × ((ac : ℕ) → MS ac ≡ true → seen (phase2b ac rm b v))
 
-  abbrev pub DecideCommitFrom : (Message → Type 0) → State → State → Type 0
-  DecideCommitFrom seen s s′ =
-      ((rm : ℕ) → RM rm → Decided seen rm prepared) × Send Commit s s′ × (s′ .rmState ≡ s .rmState) × (s′ .aState ≡ s .aState)
+  -- Decide by what is decided
+  abbrev pub DecideCommitWhere : (ℕ → Val → Type 0) → State → State → Type 0
+  DecideCommitWhere decided s s′ =
+      ((rm : ℕ) → RM rm → decided rm prepared) × Send Commit s s′ × (s′ .rmState ≡ s .rmState) × (s′ .aState ≡ s .aState)
 
-  abbrev pub DecideAbortFrom : (Message → Type 0) → State → State → Type 0
-  DecideAbortFrom seen s s′ =
-      ((rm : ℕ) × RM rm × Decided seen rm aborted) × Send Abort s s′ × (s′ .rmState ≡ s .rmState) × (s′ .aState ≡ s .aState)
+  abbrev pub DecideAbortWhere : (ℕ → Val → Type 0) → State → State → Type 0
+  DecideAbortWhere decided s s′ =
+      ((rm : ℕ) × RM rm × decided rm aborted) × Send Abort s s′ × (s′ .rmState ≡ s .rmState) × (s′ .aState ≡ s .aState)
 
   abbrev pub Decide : State → State → Type 0
-  Decide s s′ = DecideCommitFrom (s .msgs) s s′ ⊎ DecideAbortFrom (s .msgs) s s′
+  Decide s s′ = DecideCommitWhere (Decided (s .msgs)) s s′ ⊎ DecideAbortWhere (Decided (s .msgs)) s s′
 
   -- Phase1b for the message phase1a ins bal
   abbrev pub Phase1bOn : ℕ → ℕ → ℕ → State → State → Type 0
@@ -181,6 +205,14 @@ module _ (RM Acceptor : ℕ → Type 0) (Majority : (ℕ → Bool) → Type 0) w
       ⊎ (((bal rm : ℕ) × RM rm × (0 < bal) × (Phase1a bal rm s s′ ⊎ Phase2a bal rm s s′))
       ⊎ (Decide s s′
       ⊎ ((acc : ℕ) × Acceptor acc × (Phase1b acc s s′ ⊎ Phase2b acc s s′))))
+
+  -- [PCNext]_⟨rmState, aState, msgs⟩: an action, or the variables stay
+  abbrev pub PCStep : State → State → Type 0
+  PCStep s s′ = PCNext s s′ ⊎ ((s′ .rmState ≡ s .rmState) × (s′ .aState ≡ s .aState) × UnchangedMsgs s s′)
+
+  -- state t is the state at time t
+  abbrev pub PCSpec : (ℕ → State) → Type 0
+  PCSpec state = PCInit (state 0) × ((t : ℕ) → PCStep (state t) (state (suc t)))
 
   abbrev pub Enabled : (State → State → Type 0) → State → Type 1
   Enabled action s = (s′ : State) × action s s′

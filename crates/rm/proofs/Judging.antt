@@ -1,49 +1,28 @@
--- From the code's judgement of the plan and the two tables to the rows of `rmStep`. Assumes nothing.
-use Prim.Native.Nat.{ℕ, _/_, _%_}
-use mathlib.Core.Bool.{true, false}
+-- From the judgement of the plan and both tables to the whole call.
+--     judged-view      where they are sound, the view of N's bytes is the view of its messages
+--     step-sound       so what was then performed is the step
+-- Assumes nothing.
+use Prim.Native.Nat.{ℕ}
 use mathlib.Core.List.{List}
-use mathlib.Core.Path.{_≡_, refl, sym, _∙_, ap}
-use lib.Dec.{eqb}
-use lib.ListN.{length}
-use borrow.Author.Tests.{eq-eqb, ne-eqb, eqb-true}
+use mathlib.Core.Path.{_≡_, sym, _∙_, ap}
 use Rattle.message.specs.declared.Plan.{Plan}
-use Rattle.message.specs.Outcome.{Outcome, refused, refuseIf}
-use Rattle.message.specs.Plan.{isPlan}
-use Rattle.slots.specs.Table.{slotSize, isTableLength, isTable, messages}
-use Rattle.message.specs.Outcome.Laws.{both}
-use Rattle.slots.specs.Table.Holds.{holds-table}
-use Rattle.slots.specs.View.{viewBytes}
-use Rattle.slots.specs.View.Laws.{view-holds}
-use Rattle.event.specs.Step.{Step}
-use Rattle.rm.specs.Rm.{areStates, rmDecide, applied, rmStep}
+use Rattle.message.specs.Outcome.{accepted}
+use Rattle.slots.specs.View.{View, viewTable}
+use Rattle.slots.specs.View.Bytes.{viewBytes}
+use Rattle.slots.specs.View.Laws.{view-judged}
+use Rattle.change.specs.Change.{Step, applied}
+use Rattle.change.proofs.Stepping.{step-performed}
+use Rattle.rm.specs.Rm.Laws.{sound}
+use Rattle.rm.specs.Rm.{rmJudged, rmVerdict, rmStep}
 
-module _ (p : Plan) (states network e : List ℕ) where
-  pub judge-plan : isPlan p ≡ false → applied states network (refused 1) ≡ rmStep p states network e
-  unfolding rmStep refuseIf
-  judge-plan h = rw h
+pub judged-view : (p : Plan) (states network : List ℕ) → accepted tt ≡ rmJudged p states network → viewBytes p network ≡ viewTable p network
+judged-view p states network e =
+    let s = sound p states network (sym e) in
+    view-judged p network (s .plan) (s .whole) (s .ordered)
 
-  module _ (h : isPlan p ≡ true) where
-    pub judge-states-length : (length states ≡ p .rms → ⊥) → applied states network (refused 2) ≡ rmStep p states network e
-    unfolding rmStep refuseIf
-    judge-states-length n = rw (h, ne-eqb _ _ n)
-
-    module _ (n : length states ≡ p .rms) where
-      pub judge-network-length : isTableLength (length network) ≡ false → applied states network (refused 2) ≡ rmStep p states network e
-      unfolding rmStep refuseIf
-      judge-network-length l = rw (h, eq-eqb _ _ n, l)
-
-      module _ (l : isTableLength (length network) ≡ true) where
-        pub judge-states : areStates states ≡ false → applied states network (refused 3) ≡ rmStep p states network e
-        unfolding rmStep refuseIf
-        judge-states s = rw (h, eq-eqb _ _ n, l, s)
-
-        module _ (s : areStates states ≡ true) where
-          pub judge-network : isTable p network ≡ false → applied states network (refused 5) ≡ rmStep p states network e
-          unfolding rmStep refuseIf
-          judge-network t = rw (h, eq-eqb _ _ n, l, s, t)
-
-          pub judge-passed : isTable p network ≡ true → (r : Step) → r ≡ applied states network (rmDecide p states (viewBytes network) e) → r ≡ rmStep p states network e
-          unfolding rmStep refuseIf isTableLength
-          judge-passed t r a =
-              rw (h, eq-eqb _ _ n, l, s, t)
-              (a ∙ ap (λ v. applied states network (rmDecide p states v e)) (view-holds p _ _ network (holds-table p network (eqb-true _ _ (both _ _ l .0)) t)))
+pub step-sound : (p : Plan) (states network e : List ℕ) → accepted tt ≡ rmJudged p states network
+    → (r : Step) → r ≡ applied p states network (rmVerdict p states (viewBytes p network) e) → r ≡ rmStep p states network e
+unfolding rmStep
+step-sound p states network e sound r h =
+    step-performed p states network _ _ sound r
+    (h ∙ ap (λ (v : View). applied p states network (rmVerdict p states v e)) (judged-view p states network sound))

@@ -1,50 +1,30 @@
 // The step of a resource manager (document 01: a weight), kinds 0, 1 and 2, as a call by itself: RMPrepare, RMChooseToAbort,
 // RMRcvCommitMsg and RMRcvAbortMsg of document 001. It is lent W and N.
 //
-//     Change, Verdict, decide     what an event would change, or its refusal, from tables that were judged before
-//     act                         decides and stores, on tables that were judged before
-//     step                        judges the plan and both tables, then acts
+//     are_states             row 3 of "Refusals by place"
+//     judge                  the plan and both tables
+//     evaluate, perform      what an event comes to, and that stored (see the crate change)
+//     step                   the whole call
 ghost use mathlib.Core.Path.{_≡_};
-ghost use Rattle.message.specs.Outcome.{numberOf};
-ghost use Rattle.slots.specs.View.{viewBytes};
-ghost use Rattle.event.specs.Answer.{answerOutcome};
-ghost use Rattle.event.specs.Step.{Step};
-ghost use Rattle.rm.specs.Rm.{areStates, verdictOutcome, rmChoose, rmReceiveDecision, rmReceiveMessage, rmReceive, rmDecide, applied, rmStep};
-use event::Answer;
+ghost use Rattle.slots.specs.View.Bytes.{viewBytes};
+ghost use Rattle.change.specs.Change.{verdictOutcome, judgedOutcome, stepOf, applied};
+ghost use Rattle.rm.specs.Rm.{areStates, rmJudged, rmChoose, rmDecided, rmReceiveDecision, rmReceive, rmKind, rmVerdict, rmStep};
+use change::Answer;
+use change::Change;
+use change::Judged;
+use change::Sent;
+use change::Update;
+use change::Verdict;
 use message::Message;
 use message::Plan;
+use message::Read;
 use slots::Send;
-use slots::Slot;
 use slots::Store;
 use tcommit::RmState;
 
-// What an accepted event changes: one state, and what is stored in N.
-pub struct Change {
-    pub who: usize,
-    pub state: u8,
-    pub store: Store,
-    pub answer: Answer,
-}
-
-// What an event comes to, decided before anything is stored.
-pub enum Verdict {
-    Accepted(Change),
-    Refused(u8),
-}
-
-// The refusal's number in a verdict, 0 where it is an acceptance.
-pub fn verdict_number(verdict: Verdict) -> u8
-    ensures { λ r. ⌜ r ≡ numberOf (verdictOutcome verdict) ⌝ }
-{
-    match verdict {
-        Verdict::Accepted(_) => 0,
-        Verdict::Refused(number) => number,
-    }
-}
-
 // Kinds 0 and 1: from working to `next`, sending the 2a at ballot 0 with the value. 12 where not working, 13 without room in N.
-fn choose(network: &[u8], who: u8, state: u8, next: u8, val: u8) -> Verdict
-    ensures { λ r. ⌜ verdictOutcome r ≡ rmChoose (viewBytes (now (network .entry))) who state next val ⌝ }
+fn choose(plan: Plan, network: &[u8], who: u8, state: u8, next: u8, val: u8) -> Verdict
+    ensures { λ r. ⌜ verdictOutcome r ≡ rmChoose (viewBytes plan (now (network .entry))) who state next val ⌝ }
 {
     if state != RmState::WORKING {
         return Verdict::Refused(12);
@@ -54,16 +34,31 @@ fn choose(network: &[u8], who: u8, state: u8, next: u8, val: u8) -> Verdict
         bal: 0,
         val,
     };
-    let send = slots::send_message(network, m);
+    let send = slots::send_message(plan, network, m);
     match send {
         Send::Slot { slot, store } => Verdict::Accepted(Change {
-            who: who as usize,
-            state: next,
-            store,
-            answer: Answer::Sent(slot),
+            table: Update::State {
+                who: who as usize,
+                state: next,
+            },
+            network: store,
+            sent: Sent::Slot(slot),
         }),
         Send::NoRoom => Verdict::Refused(13),
     }
+}
+
+fn decided(who: u8, next: u8) -> Verdict
+    ensures { λ r. ⌜ verdictOutcome r ≡ rmDecided who next ⌝ }
+{
+    Verdict::Accepted(Change {
+        table: Update::State {
+            who: who as usize,
+            state: next,
+        },
+        network: Store::Keep,
+        sent: Sent::Quiet,
+    })
 }
 
 // A decision: Commit while working or aborted, and Abort while committed, is 11.
@@ -77,26 +72,17 @@ fn receive_decision(who: u8, state: u8, val: u8) -> Verdict
         if state == RmState::ABORTED {
             return Verdict::Refused(11);
         }
-        return Verdict::Accepted(Change {
-            who: who as usize,
-            state: RmState::COMMITTED,
-            store: Store::Keep,
-            answer: Answer::Quiet,
-        });
+        return decided(who, RmState::COMMITTED);
     }
     if state == RmState::COMMITTED {
         return Verdict::Refused(11);
     }
-    Verdict::Accepted(Change {
-        who: who as usize,
-        state: RmState::ABORTED,
-        store: Store::Keep,
-        answer: Answer::Quiet,
-    })
+    decided(who, RmState::ABORTED)
 }
 
-fn receive_message(who: u8, state: u8, m: Message) -> Verdict
-    ensures { λ r. ⌜ verdictOutcome r ≡ rmReceiveMessage who state m ⌝ }
+// 9 where the message is no decision.
+fn receive(who: u8, state: u8, m: Message) -> Verdict
+    ensures { λ r. ⌜ verdictOutcome r ≡ rmReceive who state m ⌝ }
 {
     match m {
         Message::Phase1a { ins: _, bal: _ } => Verdict::Refused(9),
@@ -121,21 +107,31 @@ fn receive_message(who: u8, state: u8, m: Message) -> Verdict
     }
 }
 
-// Kind 2: 8 where the slot is unused, 9 where it holds no decision.
-fn receive(who: u8, state: u8, slot: Slot) -> Verdict
-    ensures { λ r. ⌜ verdictOutcome r ≡ rmReceive who state slot ⌝ }
+// What an event of kinds 0, 1 and 2 comes to; for kind 2 the slot's message is taken by the reader, 8 where there is none.
+fn evaluate_kind(plan: Plan, network: &[u8], kind: u8, who: u8, state: u8, slot: usize) -> Verdict
+    ensures { λ r. ⌜ verdictOutcome r ≡ rmKind (viewBytes plan (now (network .entry))) kind who state slot ⌝ }
 {
-    match slot {
-        Slot::Unused => Verdict::Refused(8),
-        Slot::Used(m) => receive_message(who, state, m),
-        Slot::Bad => Verdict::Refused(8),
+    if kind == 0 {
+        return choose(plan, network, who, state, RmState::PREPARED, 1);
     }
+    if kind == 1 {
+        return choose(plan, network, who, state, RmState::ABORTED, 2);
+    }
+    let answer = slots::message_at(plan, network, slot);
+    let Read::Message(m) = answer else {
+        return Verdict::Refused(message::read_refusal(answer));
+    };
+    receive(who, state, m)
 }
 
-// What the event comes to on tables that were judged before: 7 where it is no event of a resource manager, then 8, 9, 11, 12 or 13.
-pub fn decide(plan: Plan, states: &[u8], network: &[u8], event: &[u8]) -> Verdict
-    ensures { λ r. ⌜ verdictOutcome r ≡ rmDecide plan (now (states .entry)) (viewBytes (now (network .entry))) (now (event .entry)) ⌝ }
+// What the event comes to: 1 for the plan, 7 where it is no event of a resource manager, then 8, 9, 11, 12 or 13. It judges no table: in one that nobody judged the
+// reader may refuse the slot with 15 or 17.
+pub fn evaluate(plan: Plan, states: &[u8], network: &[u8], event: &[u8]) -> Verdict
+    ensures { λ r. ⌜ verdictOutcome r ≡ rmVerdict plan (now (states .entry)) (viewBytes plan (now (network .entry))) (now (event .entry)) ⌝ }
 {
+    if !message::is_plan(plan) {
+        return Verdict::Refused(1);
+    }
     if !event::is_event(plan, event) {
         return Verdict::Refused(7);
     }
@@ -145,37 +141,20 @@ pub fn decide(plan: Plan, states: &[u8], network: &[u8], event: &[u8]) -> Verdic
     }
     let who = message::byte_at(event, 1);
     let state = message::byte_at(states, who as usize);
-    if kind == 0 {
-        return choose(network, who, state, RmState::PREPARED, 1);
-    }
-    if kind == 1 {
-        return choose(network, who, state, RmState::ABORTED, 2);
-    }
-    receive(
-        who,
-        state,
-        slots::peek_slot(network, event::slot_number(event)),
-    )
+    evaluate_kind(plan, network, kind, who, state, event::slot_number(event))
 }
 
-// Decides and stores, on tables that were judged before; a refusal changes no byte.
-pub fn act(plan: Plan, states: &mut [u8], network: &mut [u8], event: &[u8]) -> Answer
-    ensures { λ r. ⌜ _≡_ {A = Step} (record { answer = answerOutcome r; table = now (states .exit); network = now (network .exit) }) (applied (now (states .entry)) (now (network .entry)) (rmDecide plan (now (states .entry)) (viewBytes (now (network .entry))) (now (event .entry)))) ⌝ }
+// Evaluates and stores; a refusal changes no byte. It judges no table.
+pub fn perform(plan: Plan, states: &mut [u8], network: &mut [u8], event: &[u8]) -> Answer
+    ensures { λ r. ⌜ stepOf r (now (states .exit)) (now (network .exit)) ≡
+        applied plan (now (states .entry)) (now (network .entry)) (rmVerdict plan (now (states .entry)) (viewBytes plan (now (network .entry))) (now (event .entry))) ⌝ }
 {
-    let verdict = decide(plan, states, network, event);
-    let Verdict::Accepted(change) = verdict else {
-        return Answer::Refused(verdict_number(verdict));
-    };
-    let who = change.who;
-    let state = change.state;
-    let store = change.store;
-    let answer = change.answer;
-    slots::set_byte(states, who, state);
-    slots::apply_store(network, store);
-    answer
+    let verdict = evaluate(plan, states, network, event);
+    change::apply(plan, states, network, verdict)
 }
 
-fn are_states(states: &[u8]) -> bool
+// Whether every byte of W is a state; where one is not, 3.
+pub fn are_states(states: &[u8]) -> bool
     ensures { λ r. ⌜ r ≡ areStates (now (states .entry)) ⌝ }
 {
     let mut i = 0;
@@ -188,24 +167,36 @@ fn are_states(states: &[u8]) -> bool
     true
 }
 
-// The step: 1, 2 and 3 for the plan, the lengths and W, 5 for N, and then as `act`; a refusal changes no byte.
-pub fn step(plan: Plan, states: &mut [u8], network: &mut [u8], event: &[u8]) -> Answer
-    ensures { λ r. ⌜ _≡_ {A = Step} (record { answer = answerOutcome r; table = now (states .exit); network = now (network .exit) }) (rmStep plan (now (states .entry)) (now (network .entry)) (now (event .entry))) ⌝ }
+// The plan, the lengths, W and N: 1, 2, 3 or 5.
+pub fn judge(plan: Plan, states: &[u8], network: &[u8]) -> Judged
+    ensures { λ r. ⌜ judgedOutcome r ≡ rmJudged plan (now (states .entry)) (now (network .entry)) ⌝ }
 {
     if !message::is_plan(plan) {
-        return Answer::Refused(1);
+        return Judged::Refused(1);
     }
     if states.len() != plan.rms as usize {
-        return Answer::Refused(2);
+        return Judged::Refused(2);
     }
     if !slots::is_table_length(network.len()) {
-        return Answer::Refused(2);
+        return Judged::Refused(2);
     }
     if !are_states(states) {
-        return Answer::Refused(3);
+        return Judged::Refused(3);
     }
     if !slots::is_table(plan, network) {
-        return Answer::Refused(5);
+        return Judged::Refused(5);
     }
-    act(plan, states, network, event)
+    Judged::Sound
+}
+
+// The step: what `judge` refuses, and then as `perform`; a refusal changes no byte.
+pub fn step(plan: Plan, states: &mut [u8], network: &mut [u8], event: &[u8]) -> Answer
+    ensures { λ r. ⌜ stepOf r (now (states .exit)) (now (network .exit)) ≡
+        rmStep plan (now (states .entry)) (now (network .entry)) (now (event .entry)) ⌝ }
+{
+    let judged = judge(plan, states, network);
+    match judged {
+        Judged::Refused(number) => Answer::Refused(number),
+        Judged::Sound => perform(plan, states, network, event),
+    }
 }

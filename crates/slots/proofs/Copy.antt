@@ -9,9 +9,8 @@ use native.Mathlib.Numerals.{add-one}
 use lib.ListN.{length, getD, take, set}
 use native.Mathlib.Nat.{add-sub-cancel-left}
 use borrow.Rule.Slice.PartMut.{putMid}
-use Rattle.slots.specs.Table.{slotSize}
-use Rattle.slots.specs.Scan.{storeAt}
-use Rattle.slots.specs.Scan.Laws.{storeAt-in}
+use Rattle.slots.specs.Table.{slotSize, storeAt}
+use Rattle.slots.specs.Table.Scan.Laws.{storeAt-in}
 use lib.Seq.{take-suc, take-suc-set, take-all, drop-drop}
 
 module _ (slot form : List ℕ) (i : ℕ) where

@@ -1,7 +1,11 @@
 -- The proofs that belong to no one function.
---     Judge   from the code's answers to the cases of `readSlot`
---     Locate  the code's look at a slot, and the cases of `locateFrom`
+--     Zeros   many bytes tested for zero
+--     Six     a slot byte by byte
+--     Forms   a slot judged by bounds
+--     Look    the code's look at a slot, and the cases of `locateFrom`
 --     Copy    a form copied byte by byte
-pub mod Judge
-pub mod Locate
+pub mod Zeros
+pub mod Six
+pub mod Forms
+pub mod Look
 pub mod Copy

@@ -1,11 +1,9 @@
 -- The definitions of slot tables.
 --     All       whether every byte passes a test
 --     Table     a table's slots, when it is well formed, and the messages in it (rows 2, 5 and 6)
---     Scan      the steps on a table that was judged before, byte by byte
 --     Send      where a message goes in a table that holds messages
 --     View      what a step may ask of a table, of its bytes or of the messages that it holds
 pub mod All
 pub mod Table
-pub mod Scan
 pub mod Send
 pub mod View

@@ -5,13 +5,16 @@
 --     readTable, isTable         what all slots hold; whether none is bad and used slots come first
 --     messages                   the messages in a table, in order
 --     tableOf                    the table of so many slots that holds these messages
--- Its laws are in Table/Laws.antt, and what a judged table holds in Table/Holds.antt. Assumes nothing.
+--     sameBytes, storeAt         whether two slots are the same; a slot's bytes replaced
+-- Its laws are in Table/Laws.antt, and what a judged table holds in Table/Holds.antt; Table/Scan.antt is how the code looks at bytes.
+-- Assumes nothing.
+pub mod Scan
 pub mod Laws
 pub mod Holds
-use Prim.Native.Nat.{ℕ, zero, suc, _-_, _/_, _%_}
+use Prim.Native.Nat.{ℕ, zero, suc, _+_, _*_, _-_, _/_, _%_}
 use mathlib.Core.Bool.{Bool, true, false, _&&_, cond}
 use mathlib.Core.List.{List, [], _∷_, _++_, map}
-use lib.Dec.{leb, eqb}
+use lib.Dec.{ltb, leb, eqb}
 use lib.ListN.{length, getD, take, drop, replicate}
 use Rattle.message.specs.declared.Plan.{Plan}
 use Rattle.message.specs.declared.Message.{Message}
@@ -19,8 +22,6 @@ use Rattle.message.specs.Outcome.{Outcome, accepted, refused}
 use Rattle.message.specs.Form as Form
 use Rattle.message.specs.Codec.{readMessage}
 use Rattle.slots.specs.All.{all}
-use Rattle.slots.specs.declared.Slot.{Slot}
-use Rattle.slots.specs.declared.Slot.the-variants.{Unused, Used, Bad}
 
 -- the bytes of a slot
 abbrev pub slotSize : ℕ
@@ -45,6 +46,12 @@ slots t = slotsUpTo (length t / slotSize) t
 -- zeros alone
 unfoldable pub isZero : List ℕ → Bool
 isZero = all (λ x. eqb x 0)
+
+-- what a slot holds: nothing, a message followed by zeros, or neither
+pub data Slot : Type 0 where
+  Unused : Slot
+  Used : Message → Slot
+  Bad : Slot
 
 -- a readable message with zeros after it, or a bad slot
 abbrev pub usedSlot : Outcome Message → Bool → Slot
@@ -78,13 +85,6 @@ isOrdered (Bad ∷ rest) = false
 unfoldable pub isTable : Plan → List ℕ → Bool
 isTable p t = isOrdered (readTable p t)
 
--- how many slots at the start are used
-unfoldable pub leadingUsed : List Slot → ℕ
-leadingUsed [] = 0
-leadingUsed (Unused ∷ rest) = 0
-leadingUsed (Used m ∷ rest) = suc (leadingUsed rest)
-leadingUsed (Bad ∷ rest) = 0
-
 -- the messages in the used slots
 unfoldable pub usedMessages : List Slot → List Message
 usedMessages [] = []
@@ -100,5 +100,19 @@ joinSlots [] = []
 joinSlots (s ∷ ss) = s ++ joinSlots ss
 
 -- the table of `count` slots that holds these messages: their slots, then unused ones
-unfoldable pub tableOf : ℕ → List Message → List ℕ
-tableOf count ms = joinSlots (map Form.slotOf ms ++ replicate (count - length ms) (replicate slotSize 0))
+unfoldable pub tableOf : Plan → ℕ → List Message → List ℕ
+tableOf p count ms = joinSlots (map (Form.slotOf p) ms ++ replicate (count - length ms) (replicate slotSize 0))
+
+-- whether two lists of bytes are the same
+unfoldable pub sameBytes : List ℕ → List ℕ → Bool
+sameBytes [] [] = true
+sameBytes [] (y ∷ ys) = false
+sameBytes (x ∷ xs) [] = false
+sameBytes (x ∷ xs) (y ∷ ys) = eqb x y && sameBytes xs ys
+
+-- the slot's bytes become the form; past the table's end nothing changes
+unfoldable pub storeAt : List ℕ → ℕ → List ℕ → List ℕ
+storeAt t place form =
+    cond (ltb place (length t / slotSize))
+    (take (place * slotSize) t ++ (form ++ drop (place * slotSize + slotSize) t))
+    t

@@ -29,8 +29,15 @@ are-votes-spec =
     (λ c. search needs)
     (λ c. search needs)
     (λ c κs. tt)
-    (λ c. sym (areVotes-stop (now (c .before .before .before .before .before .before .before .args .votes)) (c .before .before .before .before .before .loop .i) (c .before .before .before .before .loop-test .taken) (failed (c .before .is-vote-state .ensures) (c .if1 .taken))) ∙ c .before .before .before .before .before .loop .inv .1)
+    (λ c. sym (areVotes-stop (now (c .before .before .before .before .before .before .before .args .votes)) (c .before .before .before .before .before .loop .i)
+    (c .before .before .before .before .loop-test .taken) (failed (c .before .is-vote-state .ensures) (c .if1 .taken)))
+    ∙ c .before .before .before .before .before .loop .inv .1)
     (λ c. search needs)
     (λ c. search needs)
-    (λ c. (search needs, areVotes-step (now (c .before .before .before .before .before .before .before .args .votes)) (c .before .before .before .before .before .loop .i) (c .before .before .before .before .loop-test .taken) (passed (c .before .is-vote-state .ensures) (c .if1 .left)) ∙ c .before .before .before .before .before .loop .inv .1))
+    (λ c. (
+      search needs,
+      areVotes-step (now (c .before .before .before .before .before .before .before .args .votes))
+          (c .before .before .before .before .before .loop .i) (c .before .before .before .before .loop-test .taken) (passed (c .before .is-vote-state .ensures)
+          (c .if1 .left)) ∙ c .before .before .before .before .before .loop .inv .1,
+    ))
     (λ c. sym (areVotes-end (now (c .before .before .before .args .votes)) (c .before .loop .i) (c .loop-test .left)) ∙ c .before .loop .inv .1))

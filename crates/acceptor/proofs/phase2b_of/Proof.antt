@@ -14,5 +14,8 @@ phase2b-of-spec =
     (λ c κs. tt)
     (λ c. search needs)
     (λ c. search needs)
-    (λ c. phase2b-sent _ _ _ _ _ _ _ (c .before .before .before .before .before .before .vote-at .ensures) _ (c .before .before .before .before .before .byte-at .ensures) _ (c .before .before .before .before .if1 .left) _ (c .before .before .before .send-message .ensures) _ _ (c .before .send .given .1))
-    (λ c. phase2b-full _ _ _ _ _ _ _ (c .before .before .before .before .before .vote-at .ensures) _ (c .before .before .before .before .byte-at .ensures) _ (c .before .before .before .if1 .left) _ (c .before .before .send-message .ensures) (c .enum-told .given .1)))
+    (λ c. phase2b-sent _ _ _ _ _ _ _ (c .before .before .before .before .before .before .vote-at .ensures) _
+    (c .before .before .before .before .before .byte-at .ensures) _ (c .before .before .before .before .if1 .left) _
+    (c .before .before .before .send-message .ensures) _ _ (c .before .send .given .1))
+    (λ c. phase2b-full _ _ _ _ _ _ _ (c .before .before .before .before .before .vote-at .ensures) _ (c .before .before .before .before .byte-at .ensures) _
+    (c .before .before .before .if1 .left) _ (c .before .before .send-message .ensures) (c .enum-told .given .1)))

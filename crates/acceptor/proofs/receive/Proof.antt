@@ -10,9 +10,14 @@ receive-spec =
     tie.close
     (tie.spec
     (λ c. search needs)
+    (λ c κs. tt)
+    (λ c. search needs)
     (λ c. search needs)
     (λ c κs. tt)
     (λ c. search needs)
+    (λ c. search needs)
+    (λ c. rw (c .before .before .m .given .1) (c .phase1b-of .ensures))
     (λ c. rw (c .enum-told .given .1))
-    (λ c. rw (c .before .before .slot .given .1) (c .receive-message .ensures))
-    (λ c. rw (c .enum-told2 .given .1)))
+    (λ c. rw (c .before .before .m2 .given .1) (c .phase2b-of .ensures))
+    (λ c. rw (c .enum-told2 .given .1))
+    (λ c. rw (c .enum-told3 .given .1)))

@@ -7,4 +7,5 @@ use Rattle.leader.proofs.decide_send.Tie as tie
 
 pub decide-send-spec : {M : Type 1} → statement M
 unfolding decideSend refuseIf
-decide-send-spec = tie.close (tie.spec (λ c. rw (not-true (c .before .before .args .guard) (c .if1 .taken))) (λ c κs. tt) (λ c. rw (not-false (c .before .before .before .args .guard) (c .before .if1 .left)) (c .send-only .ensures)))
+decide-send-spec = tie.close (tie.spec (λ c. rw (not-true (c .before .before .args .enabled) (c .if1 .taken))) (λ c κs. tt) (λ c. rw (not-false
+    (c .before .before .before .args .enabled) (c .before .if1 .left)) (c .send-only .ensures)))

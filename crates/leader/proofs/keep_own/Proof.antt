@@ -8,4 +8,6 @@ use Rattle.leader.proofs.keep_own.Tie as tie
 pub keep-own-spec : {M : Type 1} → statement M
 unfolding keepOwn sending
 keep-own-spec =
-    tie.close (tie.spec (λ c κs. tt) (λ c. search needs) (λ c. search needs) (λ c. rw (← c .before .before .before .send-message .ensures, c .before .send .given .1)) (λ c. rw (← c .before .before .send-message .ensures, c .enum-told .given .1)))
+    tie.close (tie.spec (λ c κs. tt) (λ c. search needs) (λ c. search needs) (λ c. rw
+    (← c .before .before .before .send-message .ensures, c .before .send .given .1)) (λ c. rw
+    (← c .before .before .send-message .ensures, c .enum-told .given .1)))

@@ -1,5 +1,5 @@
 -- `leader::proposal_of` meets its contract: each arm says which report it is. Assumes nothing.
-use Rattle.leader.specs.Leader.{proposal}
+use Rattle.inbox.specs.Inbox.{proposal}
 use borrow.Author.Needs.{needs}
 use Rattle.leader.proofs.proposal_of.Statement.{statement}
 use Rattle.leader.proofs.proposal_of.Tie as tie

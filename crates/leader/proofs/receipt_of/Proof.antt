@@ -1,4 +1,5 @@
--- `leader::receipt_of` meets its contract: each arm says which slot it is. Assumes nothing.
+-- `leader::receipt_of` meets its contract: each arm says which message it is. Assumes nothing.
+use mathlib.Core.Path.{_∙_}
 use Rattle.leader.specs.Leader.{receipt}
 use borrow.Author.Needs.{needs}
 use Rattle.leader.proofs.receipt_of.Statement.{statement}
@@ -13,6 +14,11 @@ receipt-of-spec =
     (λ c. search needs)
     (λ c κs. tt)
     (λ c. search needs)
+    (λ c. search needs)
+    (λ c κs. tt)
+    (λ c. search needs)
     (λ c. rw (c .enum-told .given .1))
-    (λ c. rw (c .before .before .slot .given .1) (c .receipt-message .ensures))
-    (λ c. rw (c .enum-told2 .given .1)))
+    (λ c. c .receipt-store .ensures ∙ rw (c .before .enum-told2 .given .1))
+    (λ c. rw (c .enum-told3 .given .1))
+    (λ c. c .receipt-store2 .ensures ∙ rw (c .before .enum-told4 .given .1))
+    (λ c. rw (c .enum-told5 .given .1)))

@@ -1,314 +1,231 @@
--- The step of an acceptor matches Phase1b and Phase2b.
---     judged-or-refused                rows 1, 2, 4 and 5
---     phase1b-match, phase2b-match     kind 3 on a 1a and on a 2a; row 13 is the added refusal
---     unused-refused, other-refused, kind-refused, event-refused     rows 8, 9 and 7
+-- What an accepted step of an acceptor sets.
+--     Took, took                an accepted step: the tables were sound, the event is one of kind 3, and this is its change
+--     wrote                     three bytes of Q are written and a message is sent
+--     phase1b-acts, phase2b-acts     the published action, the sent message, the bytes of Q
+--     keeps, stays-sound        a refusal changes nothing; well-formed tables stay so
 -- Assumes nothing.
-use Prim.Native.Nat.{ℕ, zero, suc, _+_, _*_, _/_, _≤_, _<_}
-use mathlib.Core.Bool.{Bool, true, false, _&&_, _||_, cond, false≢true}
-use mathlib.Core.List.{List, [], _∷_}
-use mathlib.Core.Logic.{inl, inr, _⊎_, _↔_}
+use Prim.Native.Nat.{ℕ, _+_, _*_, _≤_, _<_}
+use mathlib.Core.Bool.{true}
+use mathlib.Core.List.{List}
+use mathlib.Core.Logic.{_⊎_, _↔_}
 use mathlib.Core.Path.{_≡_, refl, sym, _∙_, ap, subst}
-use native.Mathlib.Omega.{arith}
-use lib.Dec.{ltb, leb, eqb}
-use lib.ListN.{length, getD}
-use borrow.Author.Tests.{lt-ltb, ltb-true, ltb-false, eq-eqb, ne-eqb, eqb-true, eqb-false, le-leb, leb-true, leb-false}
+use lib.Dec.{ltb, leb}
+use lib.ListN.{length, getD, set}
+use borrow.Author.Tests.{lt-ltb, ltb-true, ltb-false, leb-false, eqb-true, not-false}
 use Rattle.message.specs.declared.Plan.{Plan}
-use Rattle.message.specs.declared.Vote.the-variants.{None, Cast}
 use Rattle.message.specs.declared.Message as Wire
 use Rattle.message.specs.declared.Message.the-variants.{Phase1a, Phase1b, Phase2a, Phase2b, Decision}
-use Rattle.message.specs.Outcome.{accepted, refused, refuseIf}
-use Rattle.message.specs.Outcome.Laws.{both}
-use Rattle.message.specs.Plan.{isPlan}
-use Rattle.message.specs.Form.{isValue, isVote, isInRange}
-use Rattle.slots.specs.declared.Slot.the-variants.{Unused, Used}
-use Rattle.slots.specs.declared.Store.{Store}
-use Rattle.slots.specs.declared.Send as SendType
-use Rattle.slots.specs.declared.Send.the-variants.{Slot, NoRoom}
-use Rattle.slots.specs.Table.{slotSize, isTableLength, isTable, messages}
-use Rattle.slots.specs.Table.Holds.{Holds, holds-table, table-holds}
+use Rattle.message.specs.Outcome.{Outcome, accepted, refused, andThen}
+use Rattle.message.specs.Outcome.Laws.{accepted-not-refused, refuseIf-accepted, both}
+use Rattle.message.specs.Form.{isValue, isInRange}
+use Rattle.slots.specs.Table.{isTable, messages}
 use Rattle.slots.specs.Send.{messageAt}
-use Rattle.slots.specs.View.{viewMessages, storeBytes, storeMessages, sending}
-use Rattle.slots.specs.View.Laws.{send-sent}
-use Rattle.event.specs.declared.Answer.the-variants as Answers
-use Rattle.event.specs.Event.{kindOf, whoOf, highOf, lowOf, slotNumber, whoLimit, areArguments, isEvent}
-use Rattle.event.specs.Answer.{slot}
-use Rattle.event.specs.Step.{Step}
+use Rattle.slots.specs.View.{viewTable, storeBytes, sending}
+use Rattle.change.specs.declared.Change.{Change}
+use Rattle.change.specs.declared.Sent.the-variants.{Slot}
+use Rattle.change.specs.declared.Update.the-variants as Updates
+use Rattle.change.specs.declared.Sent.{Sent}
+use Rattle.change.specs.Change.{Step, applied}
+use Rattle.change.specs.Change.{refusal}
+use Rattle.change.specs.Change.Laws.{refused-keeps}
+use Rattle.event.specs.Event.{kindOf, whoOf, slotNumber, isEvent}
+use Rattle.event.specs.Event.Laws.{acceptor-who}
 use Rattle.paxos_commit.specs.PaxosCommit as Source
-use Rattle.paxos_commit.specs.PaxosCommit.{Val, Message, AState, State, except₂}
-use Rattle.paxos_commit.specs.Reading.{valOf, balOf, voteValOf, messageOf, setOf, voteStateOf, aStateOf}
-use Rattle.acceptor.specs.Acceptor.{voteAt, isVoteState, areVotes, voteOf, phase1b, phase2b, acceptorReceiveMessage, acceptorReceive, acceptorDecide, applied, acceptorStep}
-use Rattle.matching.specs.Common.{HasRoom, Joined, member-at, send-room, room-send, send-set}
-use Rattle.matching.specs.Leader.Conditions.{in-range}
-use Rattle.matching.specs.Common.{Settled, settle-taken, settle-disabled, settle-barred}
-use Rattle.matching.specs.Acceptor.{Judged, stateOf, Phase1bAction, Phase2bAction, reportOf, isTaken, acceptorRefusal, AcceptorRefuses}
-use Rattle.matching.specs.Acceptor.Votes.{index-bound, put3, written-state}
+use Rattle.acceptor.specs.Acceptor.{voteAt, isVoteState, areVotes, acceptorJudged, phase1b, phase2b, acceptorReceive, acceptorVerdict, acceptorStep}
+use Rattle.acceptor.specs.Acceptor.Laws.{areVotes-set}
+use Rattle.acceptor.specs.Acceptor.Sound.{Sound, sound, judged}
+use Rattle.matching.specs.Reading.{valOf, setOf, aStateOf}
+use Rattle.matching.specs.Call.{Accepted, Sends}
+use Rattle.matching.specs.Call.Laws.{member-at, slot-in-range, Joined, stored, applied-accepted, andThen-accepted, sending-accepted}
+use Rattle.matching.specs.Acceptor.{Phase1bAction, Phase2bAction, stateOf, reportOf, InSlot}
+use Rattle.matching.specs.Acceptor.Votes.{withVote, length-withVote, with-mbal, value-state, entry-mbal}
+use Rattle.matching.specs.Acceptor.Votes.{report-is, kept-state, report-range, raised, cast}
 
--- the third byte of a place is a value or 0
-votes-at : (votes : List ℕ) → areVotes votes ≡ true → (k : ℕ) → 3 * k + 2 < length votes → isVoteState (getD votes (3 * k + 1) 0) (getD votes (3 * k + 2) 0) ≡ true
-unfolding areVotes
-votes-at [] h k l = absurd (omega arith)
-votes-at (x ∷ []) h k l = absurd (omega arith)
-votes-at (x ∷ y ∷ []) h k l = absurd (omega arith)
-votes-at (x ∷ y ∷ z ∷ votes) h zero l = both (isVoteState y z) (areVotes votes) h .0
-votes-at (x ∷ y ∷ z ∷ votes) h (suc k) l =
-    let one : 3 * suc k + 1 ≡ suc (suc (suc (3 * k + 1))) = omega arith in
-    let two : 3 * suc k + 2 ≡ suc (suc (suc (3 * k + 2))) = omega arith in
-    rw (one, two) (votes-at votes (both (isVoteState y z) (areVotes votes) h .1) k (omega arith))
+-- an accepted step
+pub record Took (p : Plan) (votes network e : List ℕ) : Type 0 where
+  pub tables : Sound p votes network
+  pub event : isEvent p e ≡ true
+  pub kind : kindOf e ≡ 3
+  pub change : Change
+  pub verdict : andThen (messageAt (messages p network) (slotNumber e)) (acceptorReceive p votes (viewTable p network) (whoOf e)) ≡ accepted change
+  pub step : acceptorStep p votes network e ≡ applied p votes network (accepted change)
 
--- a vote report of Q is in range, and is read as Q's two fields
-vote-range : (bal val : ℕ) → isVoteState bal val ≡ true → isVote (voteOf bal val) ≡ true
-unfolding isVoteState voteOf isVote isValue
-vote-range bal val h = go (eqb val 0) refl
-  where
-    go : (t : Bool) → eqb val 0 ≡ t → isVote (cond t None (Cast bal val)) ≡ true
-    go true e = refl
-    go false e =
-        let b = both (leb val 2) (leb 1 val || eqb bal 0) h in
-        rw (le-leb 1 val (omega (arith, eqb-false val 0 e)), b .0)
+pub took : (p : Plan) (votes network e : List ℕ) → Accepted (acceptorStep p votes network e .answer) → Took p votes network e
+unfolding acceptorStep acceptorVerdict
+took p votes network e (a, is) =
+    let c = applied-accepted p votes network _ a is in
+    let j = andThen-accepted (acceptorJudged p votes network) (λ _. acceptorVerdict p votes (viewTable p network) e) (c .0) (c .1) in
+    let plan = refuseIf-accepted _ _ _ _ (j .2) in
+    let event = refuseIf-accepted _ _ _ _ (plan .1) in
+    let kind = refuseIf-accepted _ _ _ _ (event .1) in
+    record {
+      tables = sound p votes network (j .1);
+      event = not-false _ (event .0);
+      kind = eqb-true _ _ (not-false _ (kind .0));
+      change = c .0;
+      verdict = kind .1;
+      step = ap (applied p votes network) (c .1);
+    }
 
--- an entry of aState, given whether the vote's value is 0
-abbrev entryOf : Bool → ℕ → ℕ → ℕ → AState
-entryOf t mbal bal val = cond t (record { mbal = mbal; bal = Source.minusOne; val = Source.none }) (record { mbal = mbal; bal = Source.ballot bal; val = valOf val })
+module _ (p : Plan) (votes network e : List ℕ) where
+  -- Q and N are sound after it, of the same lengths
+  abbrev SoundAfter : Step → Type 0
+  SoundAfter r = Sound p (r .table) (r .network) × (length (r .table) ≡ length votes) × (length (r .network) ≡ length network)
 
-vote-bal : (mbal bal val : ℕ) → balOf (voteOf bal val) ≡ voteStateOf mbal bal val .bal
-unfolding voteOf
-vote-bal mbal bal val = go (eqb val 0)
-  where
-    go : (t : Bool) → balOf (cond t None (Cast bal val)) ≡ entryOf t mbal bal val .bal
-    go true = refl
-    go false = refl
+  -- three bytes were written, and a message sent
+  record Wrote (at mbal bal val : ℕ) (m : Wire.Message) (r : Step) : Type 0 where
+    pub sends : Sends p network m (r .answer) (r .network)
+    pub joins : (x : Source.Message) → setOf (messages p (r .network)) x ↔ Joined (messages p network) m x
+    pub table-is : r .table ≡ withVote votes at mbal bal val
+    pub sound-after : SoundAfter r
 
-vote-val : (mbal bal val : ℕ) → voteValOf (voteOf bal val) ≡ voteStateOf mbal bal val .val
-unfolding voteOf
-vote-val mbal bal val = go (eqb val 0)
-  where
-    go : (t : Bool) → voteValOf (cond t None (Cast bal val)) ≡ entryOf t mbal bal val .val
-    go true = refl
-    go false = refl
+  module _ (t : Took p votes network e) where
+    abbrev after : Step
+    after = acceptorStep p votes network e
 
-state-mbal : (mbal bal val : ℕ) → voteStateOf mbal bal val .mbal ≡ mbal
-state-mbal mbal bal val = go (eqb val 0)
-  where
-    go : (t : Bool) → entryOf t mbal bal val .mbal ≡ mbal
-    go true = refl
-    go false = refl
+    who : whoOf e < p .acceptors
+    who = acceptor-who p e (t .event) (t .kind)
 
--- the entry with another mbal
-abbrev withMbal : ℕ → AState → AState
-withMbal mbal a = record { mbal = mbal; bal = a .bal; val = a .val }
+    module _ (ins mbal bal val : ℕ) (vote : isVoteState bal val ≡ true) where
+      abbrev at : ℕ
+      at = voteAt p ins (whoOf e)
 
-state-raised : (mbal bal val ballot : ℕ) → voteStateOf ballot bal val ≡ withMbal ballot (voteStateOf mbal bal val)
-state-raised mbal bal val ballot = go (eqb val 0)
-  where
-    go : (t : Bool) → entryOf t ballot bal val ≡ withMbal ballot (entryOf t mbal bal val)
-    go true = refl
-    go false = refl
-
--- a vote at a ballot
-abbrev voted : ℕ → Val → AState
-voted ballot val = record { mbal = ballot; bal = Source.ballot ballot; val = val }
-
-state-voted : (ballot val : ℕ) → isValue val ≡ true → voteStateOf ballot ballot val ≡ voted ballot (valOf val)
-unfolding isValue
-state-voted ballot val h = rw (ne-eqb val 0 (λ z. let l = leb-true 1 val (both (leb 1 val) (leb val 2) h .0) in omega arith))
-
-module _ (p : Plan) (votes network : List ℕ) (judged : Judged p votes network) (rmState : ℕ → ℕ) where
-  abbrev room : ℕ
-  room = length network / slotSize
-
-  abbrev ms : List Wire.Message
-  ms = messages p network
-
-  abbrev before : State
-  before = stateOf p votes network rmState
-
-  abbrev after : Step → State
-  after r = stateOf p (r .table) (r .network) rmState
-
-  holds : Holds p room ms network
-  unfolding isTableLength
-  holds = holds-table p network (eqb-true _ _ (both _ _ (judged .whole) .0)) (judged .ordered)
-
-  -- an acceptor's entry of aState, in the bytes of Q
-  module _ (ins acc : ℕ) (hi : ins < p .rms) (ha : acc < p .acceptors) where
-    abbrev at : ℕ
-    at = 3 * (ins * p .acceptors + acc)
-
-    entry : aStateOf p votes ins acc ≡ voteStateOf (getD votes at 0) (getD votes (at + 1) 0) (getD votes (at + 2) 0)
-    entry = rw (lt-ltb ins (p .rms) hi, lt-ltb acc (p .acceptors) ha)
-
-    entry-mbal : aStateOf p votes ins acc .mbal ≡ getD votes at 0
-    entry-mbal = ap (λ (a : AState). a .mbal) entry ∙ state-mbal (getD votes at 0) (getD votes (at + 1) 0) (getD votes (at + 2) 0)
-
-    sent-set : (m : Wire.Message) → isInRange p m ≡ true → (place : ℕ) (store : Store) → viewMessages room ms .send m ≡ Slot place store
-        → (x : Message) → setOf (messages p (storeBytes store network)) x ↔ Joined ms m x
-    sent-set m r place store e x =
-        let sent = send-sent p room ms m r place store e in
-        let held : messages p (storeBytes store network) ≡ storeMessages store ms = table-holds p room _ _ (sent .holds network holds) (judged .plan) .1 in
-        rw held (send-set sent x)
-
-    no-room : (m : Wire.Message) → viewMessages room ms .send m ≡ NoRoom → HasRoom room ms m → ⊥
-    no-room m f h = let r = send-room room ms m h in let z : _≡_ {A = ℕ} 0 1 = cc (r .2) in omega arith
-
-    abbrev refusal : ℕ → Step
-    refusal = acceptorRefusal votes network
-
-    -- Phase1b on a 1a
-    module _ (bal : ℕ) (sent : setOf ms (Source.phase1a ins bal)) where
-      abbrev report : Wire.Message
-      report = reportOf p votes acc ins bal
-
-      report-range : isInRange p report ≡ true
-      unfolding isInRange voteAt
-      report-range =
-          let b = index-bound ins acc (p .rms) (p .acceptors) hi ha in
-          rw (lt-ltb ins (p .rms) hi, lt-ltb acc (p .acceptors) ha) (vote-range _ _ (votes-at votes (judged .known) (ins * p .acceptors + acc) (omega (arith, judged .three-each))))
-
-      report-is : messageOf report ≡ Source.phase1b ins bal (aStateOf p votes ins acc .bal) (aStateOf p votes ins acc .val) acc
+      known-after : areVotes (withVote votes at mbal bal val) ≡ true
       unfolding voteAt
-      report-is i = Source.phase1b ins bal ((vote-bal (getD votes at 0) (getD votes (at + 1) 0) (getD votes (at + 2) 0) ∙ sym (ap (λ (a : AState). a .bal) entry)) i) ((vote-val (getD votes at 0) (getD votes (at + 1) 0) (getD votes (at + 2) 0) ∙ sym (ap (λ (a : AState). a .val) entry)) i) acc
+      known-after = areVotes-set votes (t .tables .known) (ins * p .acceptors + whoOf e) mbal bal val vote
 
-      raised : aStateOf p (put3 votes at bal (getD votes (at + 1) 0) (getD votes (at + 2) 0)) ≡ except₂ (aStateOf p votes) ins acc (withMbal bal (aStateOf p votes ins acc))
-      raised =
-          written-state p votes (judged .three-each) ins acc hi ha bal (getD votes (at + 1) 0) (getD votes (at + 2) 0)
-          ∙ ap (except₂ (aStateOf p votes) ins acc)
-          (state-raised (getD votes at 0) (getD votes (at + 1) 0) (getD votes (at + 2) 0) bal ∙ ap (withMbal bal) (sym entry))
+      sound-with : (network′ : List ℕ) → length network′ ≡ length network → isTable p network′ ≡ true
+          → SoundAfter (record { answer = refused 0; table = withVote votes at mbal bal val; network = network′ })
+      sound-with network′ same ordered = (
+        record {
+          plan = t .tables .plan;
+          three-each = length-withVote votes at mbal bal val ∙ t .tables .three-each;
+          whole = rw same (t .tables .whole);
+          known = known-after;
+          ordered = ordered;
+        },
+        length-withVote votes at mbal bal val,
+        same,
+      )
 
-      abbrev taken1b : Bool → SendType.Send → Step
-      taken1b low send =
-          applied votes network
-          (refuseIf low 12
-          (sending 13 send
-          (λ slot store. accepted (record { at = at; mbal = bal; bal = getD votes (at + 1) 0; val = getD votes (at + 2) 0; store = store; answer = Answers.Sent slot }))))
+      wrote : (m : Wire.Message) → isInRange p m ≡ true
+          → sending 13 (viewTable p network .send m)
+          (λ slot store. accepted (record { table = Updates.Vote at mbal bal val; network = store; sent = Slot slot }))
+          ≡ accepted (t .change)
+          → Wrote at mbal bal val m after
+      wrote m range sent =
+          let (slot, store, send, is) = sending-accepted 13 _ _ _ sent in
+          let s = stored p network (t .tables .plan) (t .tables .whole) (t .tables .ordered) m range slot store send in
+          let step : applied p votes network (accepted (record { table = Updates.Vote at mbal bal val; network = store; sent = Slot slot })) ≡ after
+          = ap (applied p votes network) is ∙ sym (t .step) in
+          subst (Wrote at mbal bal val m) step
+          (record {
+            sends = record { slot = slot; answered = refl; stands = s .stands; first = s .first; stores = s .stores };
+            joins = s .joins;
+            table-is = refl;
+            sound-after = sound-with (storeBytes p store network) (s .same-length) (s .ordered);
+          })
 
-      phase1b-settled : Settled p (Phase1bAction p acc ins bal) 13 (HasRoom room ms report) before refusal (applied votes network (phase1b p votes (viewMessages room ms) acc ins bal)) (after (applied votes network (phase1b p votes (viewMessages room ms) acc ins bal)))
-      unfolding phase1b refuseIf sending voteAt
-      phase1b-settled = go (leb bal (getD votes at 0)) refl (viewMessages room ms .send report) refl
-        where
-          acts : (s′ : State) → bal ≡ bal → getD votes at 0 < bal → s′ .aState ≡ aStateOf p (put3 votes at bal (getD votes (at + 1) 0) (getD votes (at + 2) 0)) → ((x : Message) → s′ .msgs x ↔ Joined ms report x) → s′ .rmState ≡ rmState → Phase1bAction p acc ins bal before s′
-          acts s′ q low a sends r =
-              (sent, rw entry-mbal low, a ∙ raised, (λ x. subst (λ (y : Message). s′ .msgs x ↔ (setOf ms x ⊎ (x ≡ y))) report-is (sends x)), r)
+    in-range : (m : Wire.Message) → InSlot p network e m → isInRange p m ≡ true
+    in-range = slot-in-range p network (t .tables .whole) (t .tables .ordered) (slotNumber e)
 
-          go : (low : Bool) → leb bal (getD votes at 0) ≡ low → (send : SendType.Send) → viewMessages room ms .send report ≡ send
-              → Settled p (Phase1bAction p acc ins bal) 13 (HasRoom room ms report) before refusal (taken1b low send) (after (taken1b low send))
-          go true e send f = settle-disabled p _ 13 _ before refusal refl (λ a. let l = leb-true bal (getD votes at 0) e in let k : getD votes at 0 < bal = rw entry-mbal at (a .1 .1) in omega arith)
-          go false e NoRoom f =
-              settle-barred p _ 13 _ before refusal refl
-              (record { rmState = rmState; aState = aStateOf p (put3 votes at bal (getD votes (at + 1) 0) (getD votes (at + 2) 0)); msgs = Joined ms report }, acts _ refl (leb-false bal (getD votes at 0) e) refl (λ x. (λ h. h, λ h. h)) refl)
-              (no-room report f)
-          go false e (Slot place store) f =
-              settle-taken p _ 13 _ before refusal _ _ (slot place, refl) (room-send room ms report place store f)
-              (acts _ refl (leb-false bal (getD votes at 0) e) refl (sent-set report report-range place store f) refl)
-
-    -- Phase2b on a 2a
-    module _ (bal val : ℕ) (value : isValue val ≡ true) (sent : setOf ms (Source.phase2a ins bal (valOf val))) where
-      abbrev vote : Wire.Message
-      vote = Phase2b ins acc bal val
-
-      vote-message-range : isInRange p vote ≡ true
+    -- on a 1a
+    module _ (ins bal : ℕ) (is : InSlot p network e (Phase1a ins bal)) where
+      instance-1a : ins < p .rms
       unfolding isInRange
-      vote-message-range = rw (lt-ltb ins (p .rms) hi, lt-ltb acc (p .acceptors) ha, value)
+      instance-1a = ltb-true _ _ (both (ltb ins (p .rms)) (leb 1 bal) (in-range _ is) .0)
 
-      cast : aStateOf p (put3 votes at bal bal val) ≡ except₂ (aStateOf p votes) ins acc (voted bal (valOf val))
-      cast = written-state p votes (judged .three-each) ins acc hi ha bal bal val ∙ ap (except₂ (aStateOf p votes) ins acc) (state-voted bal val value)
+      promised : (getD votes (voteAt p ins (whoOf e)) 0 < bal)
+          × Wrote (voteAt p ins (whoOf e)) bal (getD votes (voteAt p ins (whoOf e) + 1) 0) (getD votes (voteAt p ins (whoOf e) + 2) 0)
+          (reportOf p votes (whoOf e) ins bal) after
+      unfolding andThen acceptorReceive phase1b
+      promised =
+          let got : phase1b p votes (viewTable p network) (whoOf e) ins bal ≡ accepted (t .change) = rw is at (t .verdict) in
+          let low = refuseIf-accepted _ _ _ _ got in
+          let vote = kept-state p votes ins (whoOf e) instance-1a who (t .tables .three-each) (t .tables .known) in
+          let range = report-range p votes ins (whoOf e) instance-1a who (t .tables .three-each) (t .tables .known) bal in
+          (leb-false _ _ (low .0), wrote ins bal _ _ vote (reportOf p votes (whoOf e) ins bal) range (low .1))
 
-      abbrev taken2b : Bool → SendType.Send → Step
-      taken2b low send =
-          applied votes network
-          (refuseIf low 12
-          (sending 13 send
-          (λ slot store. accepted (record { at = at; mbal = bal; bal = bal; val = val; store = store; answer = Answers.Sent slot }))))
-
-      phase2b-settled : Settled p (Phase2bAction p acc ins bal (valOf val)) 13 (HasRoom room ms vote) before refusal (applied votes network (phase2b p votes (viewMessages room ms) acc ins bal val)) (after (applied votes network (phase2b p votes (viewMessages room ms) acc ins bal val)))
-      unfolding phase2b refuseIf sending voteAt
-      phase2b-settled = go (ltb bal (getD votes at 0)) refl (viewMessages room ms .send vote) refl
+      pub phase1b-acts : (rmState : ℕ → ℕ)
+          → Phase1bAction p (whoOf e) ins bal (stateOf p votes network rmState) (stateOf p (after .table) (after .network) rmState)
+          × Sends p network (reportOf p votes (whoOf e) ins bal) (after .answer) (after .network)
+          × (after .table ≡ set votes (voteAt p ins (whoOf e)) bal)
+      phase1b-acts rmState =
+          let (low, w) = promised in
+          let table = w .table-is ∙ with-mbal votes (voteAt p ins (whoOf e)) bal in (
+            (
+              (Phase1a ins bal, member-at _ _ _ is, refl),
+              rw (entry-mbal p votes ins (whoOf e) instance-1a who) low,
+              ap (aStateOf p) table ∙ raised p votes ins (whoOf e) instance-1a who (t .tables .three-each) bal,
+              λ x. subst (Adds x) (report-is p votes ins (whoOf e) instance-1a who bal) (w .joins x),
+              refl,
+            ),
+            w .sends,
+            table,
+          )
         where
-          acts : (s′ : State) → getD votes at 0 ≤ bal → s′ .aState ≡ aStateOf p (put3 votes at bal bal val) → ((x : Message) → s′ .msgs x ↔ Joined ms vote x) → s′ .rmState ≡ rmState → Phase2bAction p acc ins bal (valOf val) before s′
-          acts s′ low a sends r = (sent, rw entry-mbal low, a ∙ cast, sends, r)
+          Adds : Source.Message → Source.Message → Type 0
+          Adds x m = setOf (messages p (after .network)) x ↔ (setOf (messages p network) x ⊎ (x ≡ m))
 
-          go : (low : Bool) → ltb bal (getD votes at 0) ≡ low → (send : SendType.Send) → viewMessages room ms .send vote ≡ send
-              → Settled p (Phase2bAction p acc ins bal (valOf val)) 13 (HasRoom room ms vote) before refusal (taken2b low send) (after (taken2b low send))
-          go true e send f = settle-disabled p _ 13 _ before refusal refl (λ a. let l = ltb-true bal (getD votes at 0) e in let k : getD votes at 0 ≤ bal = rw entry-mbal at (a .1 .1) in omega arith)
-          go false e NoRoom f =
-              settle-barred p _ 13 _ before refusal refl
-              (record { rmState = rmState; aState = aStateOf p (put3 votes at bal bal val); msgs = Joined ms vote }, acts _ (ltb-false bal (getD votes at 0) e) refl (λ x. (λ h. h, λ h. h)) refl)
-              (no-room vote f)
-          go false e (Slot place store) f =
-              settle-taken p _ 13 _ before refusal _ _ (slot place, refl) (room-send room ms vote place store f)
-              (acts _ (ltb-false bal (getD votes at 0) e) refl (sent-set vote vote-message-range place store f) refl)
+    -- on a 2a
+    module _ (ins bal val : ℕ) (is : InSlot p network e (Phase2a ins bal val)) where
+      range-2a : (ins < p .rms) × (isValue val ≡ true)
+      unfolding isInRange
+      range-2a = let b = both (ltb ins (p .rms)) (isValue val) (in-range _ is) in (ltb-true _ _ (b .0), b .1)
 
-  -- the judged step is the decision on the messages that N holds
-  step-decide : (e : List ℕ) → acceptorStep p votes network e ≡ applied votes network (acceptorDecide p votes (viewMessages room ms) e)
-  unfolding acceptorStep refuseIf
-  step-decide e = rw (judged .plan, eq-eqb (length votes) _ (judged .three-each), judged .whole, judged .known, judged .ordered)
+      in-range-2b : isInRange p (Phase2b ins (whoOf e) bal val) ≡ true
+      unfolding isInRange
+      in-range-2b = rw (lt-ltb ins (p .rms) (range-2a .0), lt-ltb (whoOf e) (p .acceptors) who, range-2a .1)
 
-  pub event-refused : (e : List ℕ) → isEvent p e ≡ false → acceptorStep p votes network e ≡ applied votes network (refused 7)
-  unfolding acceptorDecide refuseIf
-  event-refused e h = rw (step-decide e, h)
+      voted : (getD votes (voteAt p ins (whoOf e)) 0 ≤ bal) × Wrote (voteAt p ins (whoOf e)) bal bal val (Phase2b ins (whoOf e) bal val) after
+      unfolding andThen acceptorReceive phase2b
+      voted =
+          let got : phase2b p votes (viewTable p network) (whoOf e) ins bal val ≡ accepted (t .change) = rw is at (t .verdict) in
+          let low = refuseIf-accepted _ _ _ _ got in
+          (ltb-false _ _ (low .0), wrote ins bal bal val (value-state bal val (range-2a .1)) (Phase2b ins (whoOf e) bal val) in-range-2b (low .1))
 
-  module _ (e : List ℕ) (event : isEvent p e ≡ true) where
-    pub kind-refused : (kindOf e ≡ 3 → ⊥) → acceptorStep p votes network e ≡ applied votes network (refused 7)
-    unfolding acceptorDecide refuseIf
-    kind-refused h = rw (step-decide e, event, ne-eqb (kindOf e) 3 h)
+      pub phase2b-acts : (rmState : ℕ → ℕ)
+          → Phase2bAction p (whoOf e) ins bal (valOf val) (stateOf p votes network rmState) (stateOf p (after .table) (after .network) rmState)
+          × Sends p network (Phase2b ins (whoOf e) bal val) (after .answer) (after .network)
+          × (after .table ≡ withVote votes (voteAt p ins (whoOf e)) bal bal val)
+      phase2b-acts rmState =
+          let (low, w) = voted in (
+            (
+              (Phase2a ins bal val, member-at _ _ _ is, refl),
+              rw (entry-mbal p votes ins (whoOf e) (range-2a .0) who) low,
+              ap (aStateOf p) (w .table-is) ∙ cast p votes ins (whoOf e) (range-2a .0) who (t .tables .three-each) bal val (range-2a .1),
+              w .joins,
+              refl,
+            ),
+            w .sends,
+            w .table-is,
+          )
 
-    module _ (kind : kindOf e ≡ 3) where
-      step-receive : acceptorStep p votes network e ≡ applied votes network (acceptorReceive p votes (viewMessages room ms) (whoOf e) (messageAt ms (slotNumber e)))
-      unfolding acceptorDecide refuseIf
-      step-receive = rw (step-decide e, event, eq-eqb (kindOf e) 3 kind)
+    -- an accepted step by its message
+    took-sound : SoundAfter after
+    unfolding acceptorReceive
+    took-sound =
+        let (m, is, taken) = andThen-accepted (messageAt (messages p network) (slotNumber e)) _ _ (t .verdict) in go m is taken
+      where
+        go : (m : Wire.Message) → InSlot p network e m → acceptorReceive p votes (viewTable p network) (whoOf e) m ≡ accepted (t .change)
+            → SoundAfter after
+        go (Phase1a ins bal) is taken = promised ins bal is .1 .sound-after
+        go (Phase1b ins acc mbal vote) is taken = absurd (accepted-not-refused taken)
+        go (Phase2a ins bal val) is taken = voted ins bal val is .1 .sound-after
+        go (Phase2b ins acc bal val) is taken = absurd (accepted-not-refused taken)
+        go (Decision val) is taken = absurd (accepted-not-refused taken)
 
-      who-is : whoOf e < p .acceptors
-      unfolding isEvent whoLimit
-      who-is =
-          let form : Bool = eqb (length e) 4 && leb (kindOf e) 8 in
-          let named : ltb (whoOf e) (whoLimit p (kindOf e)) ≡ true = both form _ (both (form && ltb (whoOf e) (whoLimit p (kindOf e))) (areArguments p (kindOf e) (highOf e) (lowOf e)) event .0) .1 in
-          ltb-true _ _ (rw kind at named)
+  pub keeps : (k : ℕ) → acceptorStep p votes network e .answer ≡ refused k → acceptorStep p votes network e ≡ refusal votes network k
+  unfolding acceptorStep
+  keeps k is =
+      refused-keeps p votes network (andThen (acceptorJudged p votes network) (λ _. acceptorVerdict p votes (viewTable p network) e)) k is
 
-      pub unused-refused : messageAt ms (slotNumber e) ≡ Unused → acceptorStep p votes network e ≡ applied votes network (refused 8)
-      unfolding acceptorReceive
-      unused-refused u = rw (step-receive, u)
+  abbrev Kept : Step → Type 0
+  Kept r = (acceptorJudged p (r .table) (r .network) ≡ accepted tt) × (length (r .table) ≡ length votes) × (length (r .network) ≡ length network)
 
-      pub other-refused : (m : Wire.Message) → messageAt ms (slotNumber e) ≡ Used m → isTaken m ≡ false → acceptorStep p votes network e ≡ applied votes network (refused 9)
-      unfolding acceptorReceive acceptorReceiveMessage
-      other-refused m u n = rw (step-receive, u) (ap (applied votes network) (go m n))
-        where
-          go : (m : Wire.Message) → isTaken m ≡ false → acceptorReceiveMessage p votes (viewMessages room ms) (whoOf e) m ≡ refused 9
-          go (Phase1a ins bal) n = absurd (false≢true (sym n))
-          go (Phase1b ins acc mbal vote) n = refl
-          go (Phase2a ins bal val) n = absurd (false≢true (sym n))
-          go (Phase2b ins acc bal val) n = refl
-          go (Decision val) n = refl
-
-      -- the message in the slot is in range
-      slot-range : (m : Wire.Message) → messageAt ms (slotNumber e) ≡ Used m → isInRange p m ≡ true
-      slot-range m u = in-range p ms m (holds .inRange) (member-at ms (slotNumber e) m u)
-
-      pub phase1b-match : (ins bal : ℕ) → messageAt ms (slotNumber e) ≡ Used (Phase1a ins bal)
-          → Settled p (Phase1bAction p (whoOf e) ins bal) 13 (HasRoom room ms (reportOf p votes (whoOf e) ins bal)) before (acceptorRefusal votes network) (acceptorStep p votes network e) (after (acceptorStep p votes network e))
-      unfolding acceptorReceive acceptorReceiveMessage isInRange
-      phase1b-match ins bal u =
-          let hi = ltb-true ins (p .rms) (both (ltb ins (p .rms)) (leb 1 bal) (slot-range (Phase1a ins bal) u) .0) in
-          rw (step-receive, u) (phase1b-settled ins (whoOf e) hi who-is bal (Phase1a ins bal, member-at ms (slotNumber e) _ u, refl))
-
-      pub phase2b-match : (ins bal val : ℕ) → messageAt ms (slotNumber e) ≡ Used (Phase2a ins bal val)
-          → Settled p (Phase2bAction p (whoOf e) ins bal (valOf val)) 13 (HasRoom room ms (Phase2b ins (whoOf e) bal val)) before (acceptorRefusal votes network) (acceptorStep p votes network e) (after (acceptorStep p votes network e))
-      unfolding acceptorReceive acceptorReceiveMessage isInRange
-      phase2b-match ins bal val u =
-          let b = both (ltb ins (p .rms)) (isValue val) (slot-range (Phase2a ins bal val) u) in
-          rw (step-receive, u) (phase2b-settled ins (whoOf e) (ltb-true ins (p .rms) (b .0)) who-is bal val (b .1) (Phase2a ins bal val, member-at ms (slotNumber e) _ u, refl))
-
--- every plan and both tables are judged
-pub judged-or-refused : (p : Plan) (votes network e : List ℕ) → Judged p votes network
-    ⊎ (AcceptorRefuses p votes network e 1 ⊎ (AcceptorRefuses p votes network e 2 ⊎ (AcceptorRefuses p votes network e 4 ⊎ AcceptorRefuses p votes network e 5)))
-unfolding acceptorStep refuseIf
-judged-or-refused p votes network e = go (isPlan p) (eqb (length votes) (3 * (p .rms * p .acceptors))) (isTableLength (length network)) (areVotes votes) (isTable p network) refl refl refl refl refl
-  where
-    go : (plan three-each whole known ordered : Bool) → isPlan p ≡ plan → eqb (length votes) (3 * (p .rms * p .acceptors)) ≡ three-each → isTableLength (length network) ≡ whole
-        → areVotes votes ≡ known → isTable p network ≡ ordered
-        → Judged p votes network
-        ⊎ (AcceptorRefuses p votes network e 1 ⊎ (AcceptorRefuses p votes network e 2 ⊎ (AcceptorRefuses p votes network e 4 ⊎ AcceptorRefuses p votes network e 5)))
-    go false l w k o e1 e2 e3 e4 e5 = inr (inl (rw e1))
-    go true false w k o e1 e2 e3 e4 e5 = inr (inr (inl (rw (e1, e2))))
-    go true true false k o e1 e2 e3 e4 e5 = inr (inr (inl (rw (e1, e2, e3))))
-    go true true true false o e1 e2 e3 e4 e5 = inr (inr (inr (inl (rw (e1, e2, e3, e4)))))
-    go true true true true false e1 e2 e3 e4 e5 = inr (inr (inr (inr (rw (e1, e2, e3, e4, e5)))))
-    go true true true true true e1 e2 e3 e4 e5 = inl (record { plan = e1; three-each = eqb-true _ _ e2; whole = e3; known = e4; ordered = e5 })
+  pub stays-sound : acceptorJudged p votes network ≡ accepted tt → Kept (acceptorStep p votes network e)
+  stays-sound s = go (acceptorStep p votes network e .answer) refl
+    where
+      go : (answer : Outcome Sent) → acceptorStep p votes network e .answer ≡ answer → Kept (acceptorStep p votes network e)
+      go (accepted a) is = let (s, l, n) = took-sound (took p votes network e (a, is)) in (judged p _ _ s, l, n)
+      go (refused k) is = subst Kept (sym (keeps k is)) (s, refl, refl)

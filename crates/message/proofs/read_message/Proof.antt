@@ -16,9 +16,21 @@ read-message-spec =
     (λ c. sym (readMessage-empty _ _ (passed (c .before .before .is-plan .ensures) (c .before .if1 .left)) (c .if2 .taken)))
     (λ c. search needs)
     (λ c κs. tt)
-    (λ c. sym (readMessage-unknown _ _ (passed (c .before .before .before .before .before .is-plan .ensures) (c .before .before .before .before .if1 .left)) (c .before .before .before .if2 .left) (sym (c .before .map-length .ensures) ∙ c .if3 .taken)))
-    (λ c. sym (readMessage-length _ _ (passed (c .before .before .before .before .before .before .is-plan .ensures) (c .before .before .before .before .before .if1 .left)) (c .before .before .before .before .if2 .left) (λ u. c .before .if3 .left (c .before .before .map-length .ensures ∙ u)) (λ n. c .if4 .taken (n ∙ sym (c .before .before .map-length .ensures)))))
+    (λ c. sym (readMessage-unknown _ _ (passed (c .before .before .before .before .before .is-plan .ensures) (c .before .before .before .before .if1 .left))
+    (c .before .before .before .if2 .left) (sym (c .before .map-length .ensures) ∙ c .if3 .taken)))
+    (λ c. sym (readMessage-length _ _ (passed (c .before .before .before .before .before .before .is-plan .ensures)
+    (c .before .before .before .before .before .if1 .left)) (c .before .before .before .before .if2 .left) (λ u. c .before .if3 .left
+    (c .before .before .map-length .ensures ∙ u)) (λ n. c .if4 .taken (n ∙ sym (c .before .before .map-length .ensures)))))
     (λ c κs. tt)
     (λ c κs. tt)
-    (λ c. sym (readMessage-range _ _ (passed (c .before .before .before .before .before .before .before .before .before .is-plan .ensures) (c .before .before .before .before .before .before .before .before .if1 .left)) (c .before .before .before .before .before .before .before .if2 .left) (λ u. c .before .before .before .before .if3 .left (c .before .before .before .before .before .map-length .ensures ∙ u)) (c .before .before .before .if4 .left ∙ (c .before .before .before .before .before .map-length .ensures)) (rw (c .before .before .decode-message .ensures) at (failed (c .before .in-range .ensures) (c .if5 .taken)))))
-    (λ c. ap accepted (c .before .before .decode-message .ensures) ∙ sym (readMessage-accepted _ _ (passed (c .before .before .before .before .before .before .before .before .before .is-plan .ensures) (c .before .before .before .before .before .before .before .before .if1 .left)) (c .before .before .before .before .before .before .before .if2 .left) (λ u. c .before .before .before .before .if3 .left (c .before .before .before .before .before .map-length .ensures ∙ u)) (c .before .before .before .if4 .left ∙ (c .before .before .before .before .before .map-length .ensures)) (rw (c .before .before .decode-message .ensures) at (passed (c .before .in-range .ensures) (c .if5 .left))))))
+    (λ c. sym (readMessage-range _ _ (passed (c .before .before .before .before .before .before .before .before .before .is-plan .ensures)
+    (c .before .before .before .before .before .before .before .before .if1 .left)) (c .before .before .before .before .before .before .before .if2 .left)
+    (λ u. c .before .before .before .before .if3 .left (c .before .before .before .before .before .map-length .ensures ∙ u))
+    (c .before .before .before .if4 .left ∙ (c .before .before .before .before .before .map-length .ensures)) (rw
+    (c .before .before .decode-message .ensures) at (failed (c .before .in-range .ensures) (c .if5 .taken)))))
+    (λ c. ap accepted (c .before .before .decode-message .ensures) ∙ sym (readMessage-accepted _ _ (passed
+    (c .before .before .before .before .before .before .before .before .before .is-plan .ensures)
+    (c .before .before .before .before .before .before .before .before .if1 .left)) (c .before .before .before .before .before .before .before .if2 .left)
+    (λ u. c .before .before .before .before .if3 .left (c .before .before .before .before .before .map-length .ensures ∙ u))
+    (c .before .before .before .if4 .left ∙ (c .before .before .before .before .before .map-length .ensures)) (rw
+    (c .before .before .decode-message .ensures) at (passed (c .before .in-range .ensures) (c .if5 .left))))))

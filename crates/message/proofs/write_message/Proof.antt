@@ -19,8 +19,16 @@ write-message-spec =
     (λ c κs. tt)
     (λ c. sym (writeMessage-plan _ _ (failed (c .before .is-plan .ensures) (c .if1 .taken))))
     (λ c κs. tt)
-    (λ c. sym (writeMessage-range _ _ (passed (c .before .before .before .is-plan .ensures) (c .before .before .if1 .left)) (failed (c .before .in-range .ensures) (c .if2 .taken))))
+    (λ c. sym (writeMessage-range _ _ (passed (c .before .before .before .is-plan .ensures) (c .before .before .if1 .left)) (failed
+    (c .before .in-range .ensures) (c .if2 .taken))))
     (λ c κs. tt)
     (λ c. search needs)
     (λ c κs. tt)
-    (λ c. (λ i. record { number = 0; bytes = c .before .encode .ensures i; len = (c .map-length .ensures ∙ ap (λ (s : List ℕ). mapLength (getD s 0 0)) (c .before .encode .ensures) ∙ ap mapLength (first-slotOf _) ∙ mapLength-bytesOf _) i }) ∙ sym (writeMessage-accepted _ _ (passed (c .before .before .before .before .before .is-plan .ensures) (c .before .before .before .before .if1 .left)) (passed (c .before .before .before .in-range .ensures) (c .before .before .if2 .left)))))
+    (λ c. (λ i. record {
+      number = 0;
+      bytes = c .before .encode .ensures i;
+      len = (c .map-length .ensures ∙ ap (λ (s : List ℕ). mapLength (getD s 0 0))
+          (c .before .encode .ensures) ∙ ap mapLength (first-slotOf _ _) ∙ mapLength-bytesOf _ _) i;
+    }) ∙ sym (writeMessage-accepted _ _ (passed
+    (c .before .before .before .before .before .is-plan .ensures) (c .before .before .before .before .if1 .left)) (passed
+    (c .before .before .before .in-range .ensures) (c .before .before .if2 .left)))))

@@ -13,7 +13,7 @@ use lib.ListN.{length, getD}
 use borrow.Author.Tests.{eq-eqb, ne-eqb, eqb-true, eqb-false, not-false}
 use Rattle.message.specs.declared.Plan.{Plan}
 use Rattle.message.specs.declared.Message.{Message}
-use Rattle.message.specs.Outcome.{Outcome, accepted, refused, refuseIf}
+use Rattle.message.specs.Outcome.{accepted, refused, refuseIf}
 use Rattle.message.specs.Outcome.Laws.{accepted-inj, refuseIf-accepted}
 use Rattle.message.specs.Plan.{isPlan}
 use Rattle.message.specs.Form.{bytesOf, messageLength, mapLength, decode, isInRange}
@@ -52,12 +52,21 @@ module _ (p : Plan) (bytes : List ℕ) where
 pub record FormOf (p : Plan) (m : Message) (bytes : List ℕ) : Type 0 where
   pub plan : isPlan p ≡ true
   pub inRange : isInRange p m ≡ true
-  pub bytes-form : bytes ≡ bytesOf m
+  pub bytes-form : bytes ≡ bytesOf p m
 
-pub readMessage-bytesOf : (p : Plan) (m : Message) → isPlan p ≡ true → isInRange p m ≡ true → readMessage p (bytesOf m) ≡ accepted m
+pub readMessage-bytesOf : (p : Plan) (m : Message) → isPlan p ≡ true → isInRange p m ≡ true → readMessage p (bytesOf p m) ≡ accepted m
 unfolding readMessage refuseIf
 readMessage-bytesOf p m h i =
-    simp (h, decode-bytesOf, mapLength-bytesOf, messageLength-length, ne-eqb (messageLength m) 0 (λ e. omega (arith, messageLength-bounds m .0)), eq-eqb (messageLength m) _ refl, i)
+    simp (
+      h,
+      decode-bytesOf,
+      mapLength-bytesOf,
+      messageLength-length,
+      ne-eqb (messageLength p m) 0 (λ e. omega (arith, messageLength-bounds p m .0)),
+      eq-eqb
+          (messageLength p m) _ refl,
+      i,
+    )
 
 pub readMessage-form : (p : Plan) (bytes : List ℕ) (m : Message) → readMessage p bytes ≡ accepted m → FormOf p m bytes
 unfolding readMessage
@@ -71,18 +80,18 @@ readMessage-form p bytes m e =
     record {
       plan = not-false _ (plan .0);
       inRange = rw m-is at (not-false (isInRange p (decode bytes)) (range .0));
-      bytes-form = sym (bytesOf-decode bytes (eqb-false _ _ (known .0)) (eqb-true _ _ (not-false _ (len .0)))) ∙ ap bytesOf m-is;
+      bytes-form = sym (bytesOf-decode p bytes (eqb-false _ _ (known .0)) (eqb-true _ _ (not-false _ (len .0)))) ∙ ap (bytesOf p) m-is;
     }
 
 module _ (p : Plan) (m : Message) where
-  pub writeMessage-plan : isPlan p ≡ false → writeMessage p m ≡ written (refused 1)
+  pub writeMessage-plan : isPlan p ≡ false → writeMessage p m ≡ written p (refused 1)
   unfolding writeMessage refuseIf
   writeMessage-plan h = simp h
 
-  pub writeMessage-range : isPlan p ≡ true → isInRange p m ≡ false → writeMessage p m ≡ written (refused 17)
+  pub writeMessage-range : isPlan p ≡ true → isInRange p m ≡ false → writeMessage p m ≡ written p (refused 17)
   unfolding writeMessage refuseIf
   writeMessage-range h i = simp (h, i)
 
-  pub writeMessage-accepted : isPlan p ≡ true → isInRange p m ≡ true → writeMessage p m ≡ written (accepted m)
+  pub writeMessage-accepted : isPlan p ≡ true → isInRange p m ≡ true → writeMessage p m ≡ written p (accepted m)
   unfolding writeMessage refuseIf
   writeMessage-accepted h i = simp (h, i)

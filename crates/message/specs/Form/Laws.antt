@@ -10,7 +10,7 @@
 -- Laws/Table.antt has the rule of a constant table. Assumes nothing.
 pub mod Table
 use Prim.Native.Nat.{ℕ, zero, suc, _+_, _-_, _≤_, _<_, zero-le}
-use mathlib.Core.Bool.{Bool, true, false, _||_}
+use mathlib.Core.Bool.{Bool, _||_}
 use mathlib.Core.List.{List, [], _∷_}
 use mathlib.Core.Path.{_≡_, refl, sym, ap, subst}
 use native.Mathlib.Decide.{decLt, ℕ-discrete}
@@ -19,7 +19,7 @@ use lib.Dec.{T, eqb, leb, eqb→eq, leb→le, lit≤}
 use lib.ListN.{length, getD, take, drop, replicate, length-append, length-replicate, drop-of-length-le, List·getD-eq-default, List·getD-append}
 use lib.Seq.{drop-cons, take-append-seam, drop-append-seam}
 use borrow.Author.Tests.{ne-eqb, eqb-false}
-use Rattle.message.specs.declared.Vote.{Vote}
+use Rattle.message.specs.declared.Plan.{Plan}
 use Rattle.message.specs.declared.Vote.the-variants.{None, Cast}
 use Rattle.message.specs.declared.Message.{Message}
 use Rattle.message.specs.declared.Message.the-variants.{Phase1a, Phase1b, Phase2a, Phase2b, Decision}
@@ -41,13 +41,13 @@ messageCases P a n c b d e (Phase2a ins bal val) = b ins bal val
 messageCases P a n c b d e (Phase2b ins acc bal val) = d ins acc bal val
 messageCases P a n c b d e (Decision val) = e val
 
-pub messageLength-length : (m : Message) → length (bytesOf m) ≡ messageLength m
+pub messageLength-length : (p : Plan) (m : Message) → length (bytesOf p m) ≡ messageLength p m
 unfolding messageLength
-messageLength-length m = refl
+messageLength-length p m = refl
 
-pub messageLength-bounds : (m : Message) → (1 ≤ messageLength m) × (messageLength m ≤ slotSize)
+pub messageLength-bounds : (p : Plan) (m : Message) → (1 ≤ messageLength p m) × (messageLength p m ≤ slotSize)
 unfolding messageLength bytesOf bytesOf1b
-messageLength-bounds =
+messageLength-bounds p =
     messageCases _
     (λ i b. (lit≤ tt, lit≤ tt))
     (λ i a m. (lit≤ tt, lit≤ tt))
@@ -56,27 +56,27 @@ messageLength-bounds =
     (λ i a b v. (lit≤ tt, lit≤ tt))
     (λ v. (lit≤ tt, lit≤ tt))
 
-pub mapLength-bytesOf : (m : Message) → mapLength (getD (bytesOf m) 0 0) ≡ messageLength m
+pub mapLength-bytesOf : (p : Plan) (m : Message) → mapLength (getD (bytesOf p m) 0 0) ≡ messageLength p m
 unfolding mapLength mapLengths messageLength bytesOf bytesOf1b
-mapLength-bytesOf =
+mapLength-bytesOf p =
     messageCases _ (λ i b. refl) (λ i a m. refl) (λ i a m b v. refl) (λ i b v. refl) (λ i a b v. refl) (λ v. refl)
 
-pub length-slotOf : (m : Message) → length (slotOf m) ≡ slotSize
+pub length-slotOf : (p : Plan) (m : Message) → length (slotOf p m) ≡ slotSize
 unfolding slotOf messageLength
-length-slotOf m = simp (length-append, length-replicate) (omega (arith, messageLength-bounds m .1))
+length-slotOf p m = simp (length-append, length-replicate) (omega (arith, messageLength-bounds p m .1))
 
 -- the first byte of a slot is the message's map
-pub first-slotOf : (m : Message) → getD (slotOf m) 0 0 ≡ getD (bytesOf m) 0 0
+pub first-slotOf : (p : Plan) (m : Message) → getD (slotOf p m) 0 0 ≡ getD (bytesOf p m) 0 0
 unfolding slotOf messageLength
-first-slotOf m = List·getD-append (bytesOf m) _ 0 0 (messageLength-bounds m .0)
+first-slotOf p m = List·getD-append (bytesOf p m) _ 0 0 (messageLength-bounds p m .0)
 
-pub take-slotOf : (m : Message) → take (messageLength m) (slotOf m) ≡ bytesOf m
+pub take-slotOf : (p : Plan) (m : Message) → take (messageLength p m) (slotOf p m) ≡ bytesOf p m
 unfolding slotOf messageLength
-take-slotOf m = take-append-seam (bytesOf m) _
+take-slotOf p m = take-append-seam (bytesOf p m) _
 
-pub drop-slotOf : (m : Message) → drop (messageLength m) (slotOf m) ≡ replicate (slotSize - messageLength m) 0
+pub drop-slotOf : (p : Plan) (m : Message) → drop (messageLength p m) (slotOf p m) ≡ replicate (slotSize - messageLength p m) 0
 unfolding slotOf messageLength
-drop-slotOf m = drop-append-seam (bytesOf m) _
+drop-slotOf p m = drop-append-seam (bytesOf p m) _
 
 -- no message is longer than a slot
 fitsRule : ℕ → ℕ → Bool
@@ -91,9 +91,9 @@ mapLength-bound map =
     ]
 
 -- no map is 0
-pub first-bytesOf : (m : Message) → getD (bytesOf m) 0 0 ≡ 0 → ⊥
+pub first-bytesOf : (p : Plan) (m : Message) → getD (bytesOf p m) 0 0 ≡ 0 → ⊥
 unfolding bytesOf bytesOf1b
-first-bytesOf =
+first-bytesOf p =
     messageCases _
     (λ i b. eqb-false 9 0 refl)
     (λ i a m. eqb-false 7 0 refl)
@@ -128,14 +128,14 @@ knownMap P p09 p07 p1F p19 p1B p10 map known = under (decLt map 32)
     under (yes h) = entry h
     under (no h) = absurd (known (List·getD-eq-default mapLengths 0 {n = map} (omega arith)))
 
-pub decode-bytesOf : (m : Message) → decode (bytesOf m) ≡ m
+pub decode-bytesOf : (p : Plan) (m : Message) → decode (bytesOf p m) ≡ m
 unfolding decode fieldsMessage bytesOf bytesOf1b
-decode-bytesOf =
+decode-bytesOf p =
     messageCases _ (λ i b. refl) (λ i a m. refl) (λ i a m b v. refl) (λ i b v. refl) (λ i a b v. refl) (λ v. refl)
 
-pub decode-slotOf : (m : Message) → decode (slotOf m) ≡ m
+pub decode-slotOf : (p : Plan) (m : Message) → decode (slotOf p m) ≡ m
 unfolding decode fieldsMessage slotOf messageLength bytesOf bytesOf1b
-decode-slotOf =
+decode-slotOf p =
     messageCases _ (λ i b. refl) (λ i a m. refl) (λ i a m b v. refl) (λ i b v. refl) (λ i a b v. refl) (λ v. refl)
 
 -- the n elements from place k on, one by one
@@ -149,13 +149,14 @@ drop-firsts zero k l e = drop-of-length-le l {i = k} (omega arith)
 drop-firsts (suc n) k l e = rw (drop-cons l k 0 (omega arith)) (ap (λ (r : List ℕ). getD l k 0 ∷ r) (drop-firsts n (suc k) l (omega arith)))
 
 -- the fields of `bytes` with `map` in the first place make a message whose form is `bytes`
-Formed : List ℕ → ℕ → Type 0
-Formed bytes map = getD bytes 0 0 ≡ map → length bytes ≡ mapLength map → bytesOf (fieldsMessage map (getD bytes 1 0) (getD bytes 2 0) (getD bytes 3 0) (getD bytes 4 0) (getD bytes 5 0)) ≡ bytes
+Formed : Plan → List ℕ → ℕ → Type 0
+Formed p bytes map = getD bytes 0 0 ≡ map → length bytes ≡ mapLength map → bytesOf p (fieldsMessage map (getD bytes 1 0) (getD bytes 2 0) (getD bytes 3 0)
+    (getD bytes 4 0) (getD bytes 5 0)) ≡ bytes
 
-pub bytesOf-decode : (bytes : List ℕ) → (mapLength (getD bytes 0 0) ≡ 0 → ⊥) → length bytes ≡ mapLength (getD bytes 0 0) → bytesOf (decode bytes) ≡ bytes
+pub bytesOf-decode : (p : Plan) (bytes : List ℕ) → (mapLength (getD bytes 0 0) ≡ 0 → ⊥) → length bytes ≡ mapLength (getD bytes 0 0) → bytesOf p (decode bytes) ≡ bytes
 unfolding decode Formed bytesOf bytesOf1b fieldsMessage mapLength mapLengths firsts
-bytesOf-decode bytes known n =
-    knownMap (Formed bytes)
+bytesOf-decode p bytes known n =
+    knownMap (Formed p bytes)
     (λ h n. rw h at (sym (drop-firsts 3 0 bytes n)))
     (λ h n. rw h at (sym (drop-firsts 4 0 bytes n)))
     (λ h n. rw h at (sym (drop-firsts 6 0 bytes n)))

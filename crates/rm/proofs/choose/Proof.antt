@@ -11,4 +11,6 @@ pub choose-spec : {M : Type 1} → statement M
 unfolding rmChoose refuseIf sending
 choose-spec =
     tie.close
-    (tie.spec (λ c. search guards) (λ c κs. tt) (λ c. search needs) (λ c. search needs) (λ c. rw (← c .before .before .before .send-message .ensures, c .before .send .given .1) (search guards)) (λ c. rw (← c .before .before .send-message .ensures, c .enum-told .given .1) (search guards)))
+    (tie.spec (λ c. search guards) (λ c κs. tt) (λ c. search needs) (λ c. search needs) (λ c. rw
+    (← c .before .before .before .send-message .ensures, c .before .send .given .1) (search guards)) (λ c. rw
+    (← c .before .before .send-message .ensures, c .enum-told .given .1) (search guards)))

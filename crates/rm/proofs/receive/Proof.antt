@@ -1,4 +1,4 @@
--- `rm::receive` meets its contract: each arm says which slot it is. Assumes nothing.
+-- `rm::receive` meets its contract: each arm says which message it is. Assumes nothing.
 use Rattle.rm.specs.Rm.{rmReceive}
 use borrow.Author.Needs.{needs}
 use Rattle.rm.proofs.receive.Statement.{statement}
@@ -11,8 +11,12 @@ receive-spec =
     (tie.spec
     (λ c. search needs)
     (λ c. search needs)
-    (λ c κs. tt)
     (λ c. search needs)
+    (λ c. search needs)
+    (λ c. search needs)
+    (λ c κs. tt)
     (λ c. rw (c .enum-told .given .1))
-    (λ c. rw (c .before .before .slot .given .1) (c .receive-message .ensures))
-    (λ c. rw (c .enum-told2 .given .1)))
+    (λ c. rw (c .enum-told2 .given .1))
+    (λ c. rw (c .enum-told3 .given .1))
+    (λ c. rw (c .enum-told4 .given .1))
+    (λ c. rw (c .before .before .m .given .1) (c .receive-decision .ensures)))

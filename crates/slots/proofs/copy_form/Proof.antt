@@ -26,6 +26,11 @@ copy-form-spec =
     (λ c. omega arith)
     (λ c. search needs)
     (λ c. search needs)
-    (λ c. (search needs, simp length-set (c .before .before .loop .inv .1), copy-step (c .before .before .loop .slot) (c .before .before .before .args .form .now) (c .before .before .loop .i) (omega arith) (omega arith) (c .before .before .loop .inv .2)))
+    (λ c. (
+      search needs,
+      simp length-set (c .before .before .loop .inv .1),
+      copy-step (c .before .before .loop .slot)
+          (c .before .before .before .args .form .now) (c .before .before .loop .i) (omega arith) (omega arith) (c .before .before .loop .inv .2),
+    ))
     (λ c. omega arith)
     (λ c. copy-end (c .before .loop .slot) (c .before .before .args .form .now) (c .before .loop .i) (omega arith) (omega arith) (c .before .loop .inv .2)))

@@ -1,7 +1,8 @@
 -- What a judged table holds.
 --     allInRange             all of these messages are in range
 --     Holds                  a table of `room` slots holds these messages
---     holds-table            a table that was judged well formed holds its messages
+--     holds-table            a table of whole slots that was judged well formed holds its messages
+--     holds-judged           so does one whose length and order were judged
 --     table-holds            a table that holds messages is well formed, and they are its messages
 --     length-tableOf, length-holds, slots-tableOf, read-holding     its length and its slots
 -- Assumes nothing.
@@ -14,7 +15,7 @@ use native.Mathlib.Omega.{arith}
 use lib.ListN.{length, getD, take, drop, replicate, length-append, length-replicate, length-map, length-drop, take-append-drop}
 use lib.Seq.{take-all, take-at, drop-at, length-take-le}
 use lib.Dec.{eqb, lit≤}
-use borrow.Author.Tests.{ne-eqb}
+use borrow.Author.Tests.{ne-eqb, eqb-true}
 use Rattle.message.specs.declared.Plan.{Plan}
 use Rattle.message.specs.declared.Message.{Message}
 use Rattle.message.specs.Outcome.{Outcome, accepted, refused}
@@ -23,9 +24,8 @@ use Rattle.message.specs.Form.{messageLength, slotOf, mapLength, isInRange}
 use Rattle.message.specs.Form.Laws.{messageLength-length, mapLength-bound, mapLength-bytesOf, first-bytesOf, length-slotOf, first-slotOf, take-slotOf, drop-slotOf}
 use Rattle.message.specs.Codec.{readMessage}
 use Rattle.message.specs.Codec.Laws.{readMessage-form, readMessage-bytesOf}
-use Rattle.slots.specs.declared.Slot.{Slot}
-use Rattle.slots.specs.declared.Slot.the-variants.{Unused, Used, Bad}
-use Rattle.slots.specs.Table.{slotSize, slotsUpTo, slots, isZero, usedSlot, readSlot, readTable, isTable, isOrdered, allUnused, usedMessages, messages, joinSlots, tableOf}
+use Rattle.slots.specs.Table.{Slot, Unused, Used, Bad, slotSize, isTableLength, slotsUpTo, slots, isZero}
+use Rattle.slots.specs.Table.{usedSlot, readSlot, readTable, isTable, isOrdered, allUnused, usedMessages, messages, joinSlots, tableOf}
 use Rattle.slots.specs.All.{all}
 use Rattle.message.specs.Outcome.Laws.{both}
 use Rattle.slots.specs.All.Laws.{all-stop}
@@ -41,21 +41,21 @@ zeroSlot = replicate slotSize 0
 
 -- a used slot is its message's slot
 used-form : (p : Plan) (s : List ℕ) (m : Message) → length s ≡ slotSize → readMessage p (take (mapLength (getD s 0 0)) s) ≡ accepted m → isZero (drop (mapLength (getD s 0 0)) s) ≡ true
-    → (isInRange p m ≡ true) × (s ≡ slotOf m)
+    → (isInRange p m ≡ true) × (s ≡ slotOf p m)
 unfolding slotOf
 used-form p s m n e z =
     let len : ℕ = mapLength (getD s 0 0) in
     let f = readMessage-form p (take len s) m e in
     let short : len ≤ length s = rw n (mapLength-bound _) in
-    let len-is : messageLength m ≡ len = sym (messageLength-length m) ∙ ap length (sym (f .bytes-form)) ∙ length-take-le len s short in
-    let left : length (drop len s) ≡ slotSize - messageLength m = length-drop len s ∙ ap₂ _-_ n (sym len-is) in
-    let rest : drop len s ≡ replicate (slotSize - messageLength m) 0 = isZero-form (drop len s) z ∙ ap (λ (k : ℕ). replicate k 0) left in
+    let len-is : messageLength p m ≡ len = sym (messageLength-length p m) ∙ ap length (sym (f .bytes-form)) ∙ length-take-le len s short in
+    let left : length (drop len s) ≡ slotSize - messageLength p m = length-drop len s ∙ ap₂ _-_ n (sym len-is) in
+    let rest : drop len s ≡ replicate (slotSize - messageLength p m) 0 = isZero-form (drop len s) z ∙ ap (λ (k : ℕ). replicate k 0) left in
     (f .inRange, sym (take-append-drop len s) ∙ ap₂ (λ (a b : List ℕ). a ++ b) (f .bytes-form) rest)
 
 -- a slot is unused and zeros, or used and the slot of a message in range, or bad
 data SlotCase (p : Plan) (s : List ℕ) : Slot → Type 0 where
   unused : s ≡ zeroSlot → SlotCase p s Unused
-  used : (m : Message) → isInRange p m ≡ true → s ≡ slotOf m → SlotCase p s (Used m)
+  used : (m : Message) → isInRange p m ≡ true → s ≡ slotOf p m → SlotCase p s (Used m)
   bad : SlotCase p s Bad
 
 slotCase : (p : Plan) (s : List ℕ) → length s ≡ slotSize → SlotCase p s (readSlot p s)
@@ -81,7 +81,7 @@ sized-slotsUpTo (suc n) t h = (length-take-le slotSize t (omega arith), sized-sl
 
 -- slots that hold these messages, and are unused after them
 record SlotsHold (p : Plan) (ss : List (List ℕ)) (ms : List Message) : Type 0 where
-  pub form : ss ≡ map slotOf ms ++ replicate (length ss - length ms) zeroSlot
+  pub form : ss ≡ map (slotOf p) ms ++ replicate (length ss - length ms) zeroSlot
   pub room : length ms ≤ length ss
   pub inRange : allInRange p ms ≡ true
 
@@ -122,7 +122,7 @@ slots-hold p (s ∷ ss) sized o =
 
 -- a table of `room` slots holds these messages
 pub record Holds (p : Plan) (room : ℕ) (ms : List Message) (t : List ℕ) : Type 0 where
-  pub form : t ≡ tableOf room ms
+  pub form : t ≡ tableOf p room ms
   pub fits : length ms ≤ room
   pub inRange : allInRange p ms ≡ true
 
@@ -137,6 +137,10 @@ holds-table p t w o =
       fits = rw (length-slotsUpTo n t) at (h .room);
       inRange = h .inRange;
     }
+
+pub holds-judged : (p : Plan) (t : List ℕ) → isTableLength (length t) ≡ true → isTable p t ≡ true → Holds p (length t / slotSize) (messages p t) t
+unfolding isTableLength
+holds-judged p t l o = holds-table p t (eqb-true _ _ (both _ _ l .0)) o
 
 -- slots put together and taken apart again
 pub length-joinSlots : (ss : List (List ℕ)) → AllSized ss → length (joinSlots ss) ≡ length ss * slotSize
@@ -158,48 +162,48 @@ slots-joinSlots ss sized =
     let n : length (joinSlots ss) / slotSize ≡ length ss = omega (arith, length-joinSlots ss sized) in
     ap (λ (k : ℕ). slotsUpTo k (joinSlots ss)) n ∙ slotsUpTo-joinSlots ss sized
 
-pub sized-holding : (ms : List Message) (k : ℕ) → AllSized (map slotOf ms ++ replicate k zeroSlot)
-sized-holding [] zero = tt
-sized-holding [] (suc k) = (refl, sized-holding [] k)
-sized-holding (m ∷ ms) k = (length-slotOf m, sized-holding ms k)
+pub sized-holding : (p : Plan) (ms : List Message) (k : ℕ) → AllSized (map (slotOf p) ms ++ replicate k zeroSlot)
+sized-holding p [] zero = tt
+sized-holding p [] (suc k) = (refl, sized-holding p [] k)
+sized-holding p (m ∷ ms) k = (length-slotOf p m, sized-holding p ms k)
 
-length-holding : (ms : List Message) (k : ℕ) → length (map slotOf ms ++ replicate k zeroSlot) ≡ length ms + k
-length-holding ms k = length-append (map slotOf ms) _ ∙ ap₂ _+_ (length-map ms slotOf) (length-replicate k zeroSlot)
+length-holding : (p : Plan) (ms : List Message) (k : ℕ) → length (map (slotOf p) ms ++ replicate k zeroSlot) ≡ length ms + k
+length-holding p ms k = length-append (map (slotOf p) ms) _ ∙ ap₂ _+_ (length-map ms (slotOf p)) (length-replicate k zeroSlot)
 
-pub length-tableOf : (room : ℕ) (ms : List Message) → length ms ≤ room → length (tableOf room ms) ≡ room * slotSize
+pub length-tableOf : (p : Plan) (room : ℕ) (ms : List Message) → length ms ≤ room → length (tableOf p room ms) ≡ room * slotSize
 unfolding tableOf
-length-tableOf room ms h =
+length-tableOf p room ms h =
     let n : length ms + (room - length ms) ≡ room = omega arith in
-    length-joinSlots _ (sized-holding ms (room - length ms)) ∙ ap (λ (k : ℕ). k * slotSize) (length-holding ms (room - length ms) ∙ n)
+    length-joinSlots _ (sized-holding p ms (room - length ms)) ∙ ap (λ (k : ℕ). k * slotSize) (length-holding p ms (room - length ms) ∙ n)
 
-pub slots-tableOf : (room : ℕ) (ms : List Message) → slots (tableOf room ms) ≡ map slotOf ms ++ replicate (room - length ms) zeroSlot
+pub slots-tableOf : (p : Plan) (room : ℕ) (ms : List Message) → slots (tableOf p room ms) ≡ map (slotOf p) ms ++ replicate (room - length ms) zeroSlot
 unfolding tableOf
-slots-tableOf room ms = slots-joinSlots _ (sized-holding ms (room - length ms))
+slots-tableOf p room ms = slots-joinSlots _ (sized-holding p ms (room - length ms))
 
--- what a rule of slots makes of a table, if it gives a message for its slot and nothing for zeros
-module _ (read : List ℕ → Slot) (none : read zeroSlot ≡ Unused) where
-  read-unused : (k : ℕ) → map read (replicate k zeroSlot) ≡ replicate k Unused
+-- what a rule of slots makes of a table, if it gives `made m` for a message's slot and `none` for zeros
+module _ {A : Type 0} (read : List ℕ → A) (made : Message → A) (none : A) (of-zeros : read zeroSlot ≡ none) where
+  read-unused : (k : ℕ) → map read (replicate k zeroSlot) ≡ replicate k none
   read-unused zero = refl
-  read-unused (suc k) = ap₂ (λ (a : Slot) (b : List Slot). a ∷ b) none (read-unused k)
+  read-unused (suc k) = ap₂ (λ (a : A) (b : List A). a ∷ b) of-zeros (read-unused k)
 
-  pub read-holding : (p : Plan) (ms : List Message) → ((m : Message) → isInRange p m ≡ true → read (slotOf m) ≡ Used m) → allInRange p ms ≡ true → (k : ℕ)
-      → map read (map slotOf ms ++ replicate k zeroSlot) ≡ map Used ms ++ replicate k Unused
+  pub read-holding : (p : Plan) (ms : List Message) → ((m : Message) → isInRange p m ≡ true → read (slotOf p m) ≡ made m)
+      → allInRange p ms ≡ true → (k : ℕ) → map read (map (slotOf p) ms ++ replicate k zeroSlot) ≡ map made ms ++ replicate k none
   unfolding allInRange
   read-holding p [] one i k = read-unused k
   read-holding p (m ∷ ms) one i k =
       let b = both (isInRange p m) (allInRange p ms) i in
-      ap₂ (λ (a : Slot) (b : List Slot). a ∷ b) (one m (b .0)) (read-holding p ms one (b .1) k)
+      ap₂ (λ (a : A) (b : List A). a ∷ b) (one m (b .0)) (read-holding p ms one (b .1) k)
 
-isZero-slotOf : (m : Message) → isZero (slotOf m) ≡ false
+isZero-slotOf : (p : Plan) (m : Message) → isZero (slotOf p m) ≡ false
 unfolding isZero
-isZero-slotOf m = all-stop (λ x. eqb x 0) (slotOf m) 0 (rw (length-slotOf m) (lit≤ tt)) (ne-eqb _ _ (λ e. first-bytesOf m (sym (first-slotOf m) ∙ e)))
+isZero-slotOf p m = all-stop (λ x. eqb x 0) (slotOf p m) 0 (rw (length-slotOf p m) (lit≤ tt)) (ne-eqb _ _ (λ e. first-bytesOf p m (sym (first-slotOf p m) ∙ e)))
 
-read-slotOf : (p : Plan) → isPlan p ≡ true → (m : Message) → isInRange p m ≡ true → readSlot p (slotOf m) ≡ Used m
+read-slotOf : (p : Plan) → isPlan p ≡ true → (m : Message) → isInRange p m ≡ true → readSlot p (slotOf p m) ≡ Used m
 read-slotOf p h m i =
-    let len : mapLength (getD (slotOf m) 0 0) ≡ messageLength m = ap mapLength (first-slotOf m) ∙ mapLength-bytesOf m in
-    readSlot-used p (slotOf m) (isZero-slotOf m) m
-    (rw (len, take-slotOf m) (readMessage-bytesOf p m h i))
-    (rw (len, drop-slotOf m) (isZero-replicate (slotSize - messageLength m)))
+    let len : mapLength (getD (slotOf p m) 0 0) ≡ messageLength p m = ap mapLength (first-slotOf p m) ∙ mapLength-bytesOf p m in
+    readSlot-used p (slotOf p m) (isZero-slotOf p m) m
+    (rw (len, take-slotOf p m) (readMessage-bytesOf p m h i))
+    (rw (len, drop-slotOf p m) (isZero-replicate (slotSize - messageLength p m)))
 
 -- the slots of a table that holds messages, as they are read
 holding-ordered : (ms : List Message) (k : ℕ) → isOrdered (map Used ms ++ replicate k Unused) ≡ true
@@ -223,12 +227,12 @@ module _ (p : Plan) (room : ℕ) (ms : List Message) (t : List ℕ) (h : Holds p
   unfolding readTable isZero all
   read-table plan =
       ap (λ (u : List ℕ). map (readSlot p) (slots u)) (h .form)
-      ∙ ap (map (readSlot p)) (slots-tableOf room ms)
-      ∙ read-holding (readSlot p) (readSlot-unused p zeroSlot refl) p ms (read-slotOf p plan) (h .inRange) (room - length ms)
+      ∙ ap (map (readSlot p)) (slots-tableOf p room ms)
+      ∙ read-holding (readSlot p) Used Unused (readSlot-unused p zeroSlot refl) p ms (read-slotOf p plan) (h .inRange) (room - length ms)
 
   pub table-holds : isPlan p ≡ true → (isTable p t ≡ true) × (messages p t ≡ ms)
   unfolding isTable messages
   table-holds plan = (ap isOrdered (read-table plan) ∙ holding-ordered ms (room - length ms), ap usedMessages (read-table plan) ∙ holding-messages ms (room - length ms))
 
   pub length-holds : length t ≡ room * slotSize
-  length-holds = ap length (h .form) ∙ length-tableOf room ms (h .fits)
+  length-holds = ap length (h .form) ∙ length-tableOf p room ms (h .fits)

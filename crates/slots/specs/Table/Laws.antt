@@ -3,30 +3,31 @@
 --     length-slotsUpTo, getD-slotsUpTo, drop-slotsUpTo, joinSlots-slotsUpTo      slots by place
 --     readSlot-unused, -refused, -rubbish, -used      a slot case by case
 --     slotAt, slotAt-end, length-readTable            the slot at a place
---     leadingUsed-step, -unused, -bad, -end, -bound                   counting the used slots at the start
+--     leadingUsed-step, -unused, -bad, -end, -bound, -first           counting the used slots at the start
 -- Assumes nothing.
+pub mod Bounds
 use Prim.Native.Nat.{ℕ, zero, suc, _+_, _-_, _*_, _/_, _≤_, _<_, zero-le, suc-le-suc}
-use mathlib.Core.Bool.{Bool, true, false, _&&_, cond, and-assoc, false≢true}
+use mathlib.Core.Bool.{Bool, true, false, _&&_, cond, not}
 use mathlib.Core.List.{List, [], _∷_, _++_, map}
 use mathlib.Core.Path.{_≡_, refl, sym, _∙_, ap, ap₂}
 use native.Mathlib.Nat.{add-zero, add-sub-cancel-left, not-suc-le-zero, sub-zero, suc-sub-suc}
 use native.Mathlib.Numerals.{add-one}
 use native.Mathlib.Omega.{arith}
-use lib.Dec.{eqb}
-use lib.ListN.{length, getD, take, drop, replicate, length-replicate, length-drop, drop-of-length-le, length-map, List·getD-map, List·getD-eq-default}
-use lib.Seq.{drop-cons, drop-drop, take-add, drop-length}
-use borrow.Author.Tests.{eq-eqb, ne-eqb, eqb-true}
+use lib.Dec.{eqb, lit≤}
+use lib.ListN.{length, getD, take, drop, replicate, drop-of-length-le, length-map, List·getD-map, List·getD-eq-default}
+use lib.Seq.{drop-cons, drop-drop, take-add, getD-take}
+use borrow.Author.Tests.{eqb-true}
 use Rattle.message.specs.declared.Plan.{Plan}
 use Rattle.message.specs.declared.Message.{Message}
-use Rattle.message.specs.Outcome.{Outcome, accepted, refused}
-use Rattle.message.specs.Form.{mapLength}
+use Rattle.message.specs.Outcome.{Outcome, accepted, refused, refuseIf}
+use Rattle.message.specs.Plan.{isPlan}
+use Rattle.message.specs.Form.{mapLengths, mapLength}
 use Rattle.message.specs.Codec.{readMessage}
-use Rattle.slots.specs.declared.Slot.{Slot}
-use Rattle.slots.specs.declared.Slot.the-variants.{Unused, Used, Bad}
+use Rattle.slots.specs.Table.{Slot, Unused, Used, Bad, slotSize, slotsUpTo, slots, isZero, usedSlot, readSlot, readTable, allUnused, isOrdered, isTable, joinSlots}
 use Rattle.slots.specs.All.{all}
 use Rattle.message.specs.Outcome.Laws.{both}
 use Rattle.slots.specs.All.Laws.{all-append}
-use Rattle.slots.specs.Table.{slotSize, slotsUpTo, slots, isZero, usedSlot, readSlot, readTable, allUnused, isOrdered, isTable, leadingUsed, joinSlots}
+use Rattle.slots.specs.Table.Scan.{leadingUsed}
 
 pub isZero-replicate : (n : ℕ) → isZero (replicate n 0) ≡ true
 unfolding isZero all
@@ -92,17 +93,21 @@ pub length-readTable : (p : Plan) (t : List ℕ) → length (readTable p t) ≡ 
 unfolding readTable slots
 length-readTable p t = length-map (slotsUpTo (length t / slotSize) t) (readSlot p) ∙ length-slotsUpTo _ t
 
--- the slot at a place, read by any rule that takes nothing for an unused slot, and past the end
-module _ (read : List ℕ → Slot) (none : read [] ≡ Unused) (t : List ℕ) (k : ℕ) where
-  pub slotAt : k < length t / slotSize → read (take (k * slotSize + slotSize - k * slotSize) (drop (k * slotSize) t)) ≡ getD (map read (slots t)) k Unused
+-- the slot at a place, read by any rule, and past the end
+module _ {A : Type 0} (read : List ℕ → A) (none : A) (of-none : read [] ≡ none) (t : List ℕ) (k : ℕ) where
+  pub slotAt : k < length t / slotSize → read (take (k * slotSize + slotSize - k * slotSize) (drop (k * slotSize) t)) ≡ getD (map read (slots t)) k none
   unfolding slots
   slotAt h =
       rw (add-sub-cancel-left (k * slotSize) slotSize)
-      (ap read (sym (getD-slotsUpTo _ k t h)) ∙ sym (rw none at (List·getD-map read (slotsUpTo (length t / slotSize) t) k [])))
+      (ap read (sym (getD-slotsUpTo _ k t h)) ∙ sym (rw of-none at (List·getD-map read (slotsUpTo (length t / slotSize) t) k [])))
 
-  pub slotAt-end : length t / slotSize ≤ k → Unused ≡ getD (map read (slots t)) k Unused
+  pub slotAt-end : length t / slotSize ≤ k → none ≡ getD (map read (slots t)) k none
   unfolding slots
-  slotAt-end h = sym (List·getD-eq-default (map read (slotsUpTo (length t / slotSize) t)) Unused (rw (length-map (slotsUpTo (length t / slotSize) t) read, length-slotsUpTo (length t / slotSize) t) h))
+  slotAt-end h = sym (List·getD-eq-default (map read (slotsUpTo (length t / slotSize) t)) none (rw (
+    length-map (slotsUpTo
+        (length t / slotSize) t) read,
+    length-slotsUpTo (length t / slotSize) t,
+  ) h))
 
 -- counting the used slots at the start: one more, or no more
 module _ (l : List Slot) (k : ℕ) (h : k < length l) where
@@ -175,3 +180,25 @@ isTable-zero p t u e =
     (ap joinSlots (drop-slotsUpTo _ u t (leadingUsed-readTable p t u e))
     ∙ joinSlots-slotsUpTo _ (drop (u * slotSize) t)
     ∙ ap (λ (k : ℕ). take k (drop (u * slotSize) t)) (times-sub (length t / slotSize) u))
+
+-- a slot whose first byte is 0 is not used
+unused-first : (p : Plan) (s : List ℕ) (rest : List Slot) → getD s 0 0 ≡ 0 → 0 ≡ leadingUsed (readSlot p s ∷ rest)
+unfolding readSlot leadingUsed readMessage refuseIf mapLength mapLengths
+unused-first p s rest e = rw e (go (isZero s) (isPlan p) (isZero s))
+  where
+    go : (z plan r : Bool) → 0 ≡ leadingUsed (cond z Unused (usedSlot (refuseIf (not plan) 1 (refused 15)) r) ∷ rest)
+    go true plan r = refl
+    go false true r = refl
+    go false false r = refl
+
+-- so a table that begins with 0 has no leading used slots
+pub leadingUsed-first : (p : Plan) (t : List ℕ) → getD t 0 0 ≡ 0 → 0 ≡ leadingUsed (readTable p t)
+unfolding readTable slots slotsUpTo leadingUsed
+leadingUsed-first p t e = go (length t / slotSize)
+  where
+    go : (n : ℕ) → 0 ≡ leadingUsed (map (readSlot p) (slotsUpTo n t))
+    go zero = refl
+    go (suc n) = unused-first p (take slotSize t) (map (readSlot p) (slotsUpTo n (drop slotSize t))) (getD-take slotSize t 0 0 (lit≤ tt) ∙ e)
+
+pub isTable-first : (p : Plan) (t : List ℕ) → getD t 0 0 ≡ 0 → isTable p t ≡ isZero (take (length t / slotSize * slotSize) t)
+isTable-first p t e = isTable-zero p t 0 (leadingUsed-first p t e) ∙ ap (λ (n : ℕ). isZero (take n t)) (sub-zero (length t / slotSize * slotSize))

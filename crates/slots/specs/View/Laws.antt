@@ -1,6 +1,6 @@
 -- On a judged table the view of the bytes is the view of the messages, and so are stores.
 --     PlaceCase, placeCase     the three places: the first where an equal message stands, or the first unused slot, or no room
---     view-holds               the two views agree
+--     view-holds, view-judged  the two views agree, where the table holds messages, and where it was judged
 --     leading-used, -unused, -bad, -end     the messages from a place on, as a loop meets them
 --     Sent, send-sent          an accepted send: the first slot where the message stands, and what the table then holds
 --     send-full                a send without room: the message is absent and every slot is used
@@ -19,77 +19,79 @@ use lib.Seq.{drop-cons}
 use borrow.Author.Tests.{ltb-true, ltb-false}
 use Rattle.message.specs.declared.Plan.{Plan}
 use Rattle.message.specs.declared.Message.{Message}
+use Rattle.message.specs.Outcome.{accepted}
+use Rattle.message.specs.Plan.{isPlan}
 use Rattle.message.specs.Form.{slotOf, decode, isInRange}
 use Rattle.message.specs.Form.Laws.{decode-slotOf}
-use Rattle.slots.specs.declared.Slot.the-variants.{Unused, Used, Bad}
+use Rattle.slots.specs.Table.{Unused, Used, Bad, slotSize, isTableLength, slots, slotsUpTo, isTable}
 use Rattle.slots.specs.declared.Place.{Place}
 use Rattle.slots.specs.declared.Place.the-variants.{At, Free, Full}
-use Rattle.slots.specs.Table.Holds.{Holds}
-use Rattle.slots.specs.Table.{slotSize, slots, slotsUpTo}
+use Rattle.slots.specs.Table.Holds.{Holds, holds-judged}
 use Rattle.slots.specs.Table.Laws.{length-slotsUpTo}
-use Rattle.slots.specs.Scan.{sameBytes, peekSlot, peekTable}
-use Rattle.slots.specs.Scan.Laws.{sameBytes-true, sameBytes-refl}
+use Rattle.slots.specs.Table.Scan.{peekSlot, peekTable}
+use Rattle.slots.specs.Table.Scan.Laws.{sameBytes-true, sameBytes-refl}
 use Rattle.slots.specs.Send.{sameMessage, placeFrom, placeIn, messageAt}
-use Rattle.slots.specs.Send.Laws.{peek-holds, peek-table, locate-holds, store-holds}
+use Rattle.slots.specs.Send.Laws.{read-holds, peek-table, locate-holds, store-holds}
 use Rattle.slots.specs.declared.Store.{Store}
 use Rattle.slots.specs.declared.Store.the-variants.{Keep, Put}
 use Rattle.slots.specs.declared.Send.the-variants.{Slot, NoRoom}
-use Rattle.slots.specs.View.{View, viewMessages, viewBytes, leadingMessages, sendOf, storeBytes, storeMessages}
+use Rattle.slots.specs.View.{viewMessages, viewTable, sendOf, storeBytes, storeMessages}
+use Rattle.slots.specs.View.Bytes.{viewBytes, leadingMessages}
 
-pub sameMessage-true : (m m′ : Message) → sameMessage m m′ ≡ true → m ≡ m′
+pub sameMessage-true : (p : Plan) (m m′ : Message) → sameMessage p m m′ ≡ true → m ≡ m′
 unfolding sameMessage
-sameMessage-true m m′ e = sym (decode-slotOf m) ∙ ap decode (sameBytes-true _ _ e) ∙ decode-slotOf m′
+sameMessage-true p m m′ e = sym (decode-slotOf p m) ∙ ap decode (sameBytes-true _ _ e) ∙ decode-slotOf p m′
 
-pub sameMessage-refl : (m : Message) → sameMessage m m ≡ true
+pub sameMessage-refl : (p : Plan) (m : Message) → sameMessage p m m ≡ true
 unfolding sameMessage
-sameMessage-refl m = sameBytes-refl (slotOf m)
+sameMessage-refl p m = sameBytes-refl (slotOf p m)
 
 -- no slot of the table holds the message
 abbrev pub Absent : List Message → Message → Type 0
-Absent ms m = (k : ℕ) → messageAt ms k ≡ Used m → ⊥
+Absent ms m = (k : ℕ) → messageAt ms k ≡ accepted m → ⊥
 
 -- no slot before the place holds the message
 abbrev pub Before : List Message → Message → ℕ → Type 0
-Before ms m k = (i : ℕ) → i < k → messageAt ms i ≡ Used m → ⊥
+Before ms m k = (i : ℕ) → i < k → messageAt ms i ≡ accepted m → ⊥
 
 -- the places that `placeFrom j` may answer
 pub data PlaceCase (j room : ℕ) (ms : List Message) (m : Message) : Place → Type 0 where
-  at : (i k : ℕ) → i ≡ j + k → messageAt ms k ≡ Used m → Before ms m k → PlaceCase j room ms m (At i)
+  at : (i k : ℕ) → i ≡ j + k → messageAt ms k ≡ accepted m → Before ms m k → PlaceCase j room ms m (At i)
   free : (i : ℕ) → i ≡ j + length ms → i < room → Absent ms m → PlaceCase j room ms m (Free i)
   full : room ≤ j + length ms → Absent ms m → PlaceCase j room ms m Full
 
 -- a message that differs from the first one, and is absent from the rest
-absent-cons : (x : Message) (ms : List Message) (m : Message) → sameMessage x m ≡ false → Absent ms m → Absent (x ∷ ms) m
+absent-cons : (p : Plan) (x : Message) (ms : List Message) (m : Message) → sameMessage p x m ≡ false → Absent ms m → Absent (x ∷ ms) m
 unfolding messageAt
-absent-cons x ms m n a zero e = false≢true (sym n ∙ ap (λ (y : Message). sameMessage y m) x-is ∙ sameMessage-refl m)
+absent-cons p x ms m n a zero e = false≢true (sym n ∙ ap (λ (y : Message). sameMessage p y m) x-is ∙ sameMessage-refl p m)
   where
     x-is : x ≡ m
     x-is = cc
-absent-cons x ms m n a (suc k) e = a k e
+absent-cons p x ms m n a (suc k) e = a k e
 
-before-cons : (x : Message) (ms : List Message) (m : Message) (k : ℕ) → sameMessage x m ≡ false → Before ms m k → Before (x ∷ ms) m (suc k)
+before-cons : (p : Plan) (x : Message) (ms : List Message) (m : Message) (k : ℕ) → sameMessage p x m ≡ false → Before ms m k → Before (x ∷ ms) m (suc k)
 unfolding messageAt
-before-cons x ms m k n b zero h e = absent-cons x [] m n (λ i f. let z : _≡_ {A = ℕ} 0 1 = cc in omega arith) zero e
-before-cons x ms m k n b (suc i) h e = b i (le-of-suc-le-suc h) e
+before-cons p x ms m k n b zero h e = absent-cons p x [] m n (λ i f. let z : _≡_ {A = ℕ} 0 1 = cc in omega arith) zero e
+before-cons p x ms m k n b (suc i) h e = b i (le-of-suc-le-suc h) e
 
-place-cons : (j room : ℕ) (x : Message) (ms : List Message) (m : Message) → sameMessage x m ≡ false → (q : Place) → PlaceCase (suc j) room ms m q → PlaceCase j room (x ∷ ms) m q
+place-cons : (p : Plan) (j room : ℕ) (x : Message) (ms : List Message) (m : Message) → sameMessage p x m ≡ false → (q : Place) → PlaceCase (suc j) room ms m q → PlaceCase j room (x ∷ ms) m q
 unfolding messageAt
-place-cons j room x ms m n q (at i k e h b) = at i (suc k) (omega arith) h (before-cons x ms m k n b)
-place-cons j room x ms m n q (free i e h a) = free i (omega arith) h (absent-cons x ms m n a)
-place-cons j room x ms m n q (full h a) = full (omega arith) (absent-cons x ms m n a)
+place-cons p j room x ms m n q (at i k e h b) = at i (suc k) (omega arith) h (before-cons p x ms m k n b)
+place-cons p j room x ms m n q (free i e h a) = free i (omega arith) h (absent-cons p x ms m n a)
+place-cons p j room x ms m n q (full h a) = full (omega arith) (absent-cons p x ms m n a)
 
-pub placeCase : (j room : ℕ) (ms : List Message) (m : Message) → PlaceCase j room ms m (placeFrom j room ms m)
+pub placeCase : (p : Plan) (j room : ℕ) (ms : List Message) (m : Message) → PlaceCase j room ms m (placeFrom p j room ms m)
 unfolding placeFrom messageAt
-placeCase j room [] m = go (ltb j room) refl
+placeCase p j room [] m = go (ltb j room) refl
   where
     go : (b : Bool) → ltb j room ≡ b → PlaceCase j room [] m (cond b (Free j) Full)
     go true e = free j (sym (add-zero j)) (ltb-true j room e) (λ k e. let z : _≡_ {A = ℕ} 0 1 = cc in omega arith)
     go false e = full (rw add-zero (ltb-false j room e)) (λ k e. let z : _≡_ {A = ℕ} 0 1 = cc in omega arith)
-placeCase j room (x ∷ ms) m = go (sameMessage x m) refl (placeCase (suc j) room ms m)
+placeCase p j room (x ∷ ms) m = go (sameMessage p x m) refl (placeCase p (suc j) room ms m)
   where
-    go : (b : Bool) → sameMessage x m ≡ b → PlaceCase (suc j) room ms m (placeFrom (suc j) room ms m) → PlaceCase j room (x ∷ ms) m (cond b (At j) (placeFrom (suc j) room ms m))
-    go true e r = at j 0 (sym (add-zero j)) (ap Used (sameMessage-true x m e)) (λ i h f. absurd (not-suc-le-zero h))
-    go false e r = place-cons j room x ms m e _ r
+    go : (b : Bool) → sameMessage p x m ≡ b → PlaceCase (suc j) room ms m (placeFrom p (suc j) room ms m) → PlaceCase j room (x ∷ ms) m (cond b (At j) (placeFrom p (suc j) room ms m))
+    go true e r = at j 0 (sym (add-zero j)) (ap accepted (sameMessage-true p x m e)) (λ i h f. absurd (not-suc-le-zero h))
+    go false e r = place-cons p j room x ms m e _ r
 
 -- the messages from a place on, as a loop meets them
 module _ (t : List ℕ) (k : ℕ) where
@@ -124,22 +126,25 @@ leading-holding [] (suc k) = refl
 leading-holding (m ∷ ms) k = ap (λ (r : List Message). m ∷ r) (leading-holding ms k)
 
 module _ (p : Plan) (room : ℕ) (ms : List Message) (t : List ℕ) (h : Holds p room ms t) where
-  pub view-holds : viewBytes t ≡ viewMessages room ms
-  view-holds i =
+  pub view-holds : isPlan p ≡ true → viewBytes p t ≡ viewMessages p room ms
+  view-holds plan i =
       record {
-        slot = fun-ext (peek-holds p room ms t h) i;
+        slot = fun-ext (read-holds p room ms t h plan) i;
         messages = (ap leadingMessages (peek-table p room ms t h) ∙ leading-holding ms (room - length ms)) i;
         send = fun-ext (λ (m : Message). ap (λ (q : Place). sendOf q m) (locate-holds p room ms t h m)) i;
       }
 
+pub view-judged : (p : Plan) (t : List ℕ) → isPlan p ≡ true → isTableLength (length t) ≡ true → isTable p t ≡ true → viewBytes p t ≡ viewTable p t
+view-judged p t plan l o = view-holds p _ _ t (holds-judged p t l o) plan
+
 -- what an accepted send leaves
 pub record Sent (p : Plan) (room : ℕ) (ms : List Message) (m : Message) (slot : ℕ) (store : Store) : Type 0 where
-  pub stands : messageAt (storeMessages store ms) slot ≡ Used m
+  pub stands : messageAt (storeMessages store ms) slot ≡ accepted m
   pub first : Before (storeMessages store ms) m slot
-  pub members : (storeMessages store ms ≡ ms) ⊎ (storeMessages store ms ≡ ms ++ (m ∷ []))
-  pub holds : (t : List ℕ) → Holds p room ms t → Holds p room (storeMessages store ms) (storeBytes store t)
+  pub cases : ((store ≡ Keep) × (messageAt ms slot ≡ accepted m)) ⊎ ((store ≡ Put (length ms) m) × Absent ms m)
+  pub holds : (t : List ℕ) → Holds p room ms t → Holds p room (storeMessages store ms) (storeBytes p store t)
 
-messageAt-append : (ms : List Message) (m : Message) → messageAt (ms ++ (m ∷ [])) (length ms) ≡ Used m
+messageAt-append : (ms : List Message) (m : Message) → messageAt (ms ++ (m ∷ [])) (length ms) ≡ accepted m
 unfolding messageAt
 messageAt-append [] m = refl
 messageAt-append (x ∷ ms) m = messageAt-append ms m
@@ -152,15 +157,15 @@ messageAt-before (x ∷ ms) m zero h = refl
 messageAt-before (x ∷ ms) m (suc i) h = messageAt-before ms m i (le-of-suc-le-suc h)
 
 pub send-sent : (p : Plan) (room : ℕ) (ms : List Message) (m : Message) → isInRange p m ≡ true → (slot : ℕ) (store : Store)
-    → viewMessages room ms .send m ≡ Slot slot store → Sent p room ms m slot store
+    → viewMessages p room ms .send m ≡ Slot slot store → Sent p room ms m slot store
 unfolding placeIn
-send-sent p room ms m r slot store e = go (placeFrom 0 room ms m) (placeCase 0 room ms m) e
+send-sent p room ms m r slot store e = go (placeFrom p 0 room ms m) (placeCase p 0 room ms m) e
   where
     go : (q : Place) → PlaceCase 0 room ms m q → sendOf q m ≡ Slot slot store → Sent p room ms m slot store
     go q (at i k n s b) e =
         let store-is : Keep ≡ store = cc in
         let slot-is : k ≡ slot = sym (zero-add k) ∙ sym n ∙ cc in
-        subst₂ (λ (j : ℕ) (w : Store). Sent p room ms m j w) slot-is store-is (record { stands = s; first = b; members = inl refl; holds = λ t h. h })
+        subst₂ (λ (j : ℕ) (w : Store). Sent p room ms m j w) slot-is store-is (record { stands = s; first = b; cases = inl (refl, s); holds = λ t h. h })
     go q (free i n s a) e =
         let i-is : i ≡ length ms = n ∙ zero-add (length ms) in
         let store-is : Put i m ≡ store = cc in
@@ -169,15 +174,15 @@ send-sent p room ms m r slot store e = go (placeFrom 0 room ms m) (placeCase 0 r
         (record {
           stands = rw i-is (messageAt-append ms m);
           first = λ k l f. a k (sym (messageAt-before ms m k (rw i-is at l)) ∙ f);
-          members = inr refl;
+          cases = inr (ap (λ (j : ℕ). Put j m) i-is, a);
           holds = λ t h. rw i-is (store-holds p room ms t h m (rw i-is at s) r);
         })
     go q (full s a) e = absurd (let z : _≡_ {A = ℕ} 0 1 = cc in omega arith)
 
 -- there is no room only where the message is absent and every slot is used
-pub send-full : (room : ℕ) (ms : List Message) (m : Message) → viewMessages room ms .send m ≡ NoRoom → (room ≤ length ms) × Absent ms m
+pub send-full : (p : Plan) (room : ℕ) (ms : List Message) (m : Message) → viewMessages p room ms .send m ≡ NoRoom → (room ≤ length ms) × Absent ms m
 unfolding placeIn
-send-full room ms m e = go (placeFrom 0 room ms m) (placeCase 0 room ms m) e
+send-full p room ms m e = go (placeFrom p 0 room ms m) (placeCase p 0 room ms m) e
   where
     go : (q : Place) → PlaceCase 0 room ms m q → sendOf q m ≡ NoRoom → (room ≤ length ms) × Absent ms m
     go q (at i k n s b) e = absurd (let z : _≡_ {A = ℕ} 0 1 = cc in omega arith)

@@ -1,0 +1,57 @@
+-- The messages of the inbox as a loop meets them, slot by slot, in the inbox's own bytes.
+--     messageAt                 the message that the bytes from an index on make
+--     ahead                     the messages from a slot on
+--     ahead-used, -unused, -end     one message further, and none left
+-- Assumes nothing.
+use Prim.Native.Nat.{ℕ, _+_, _*_, _/_, _≤_, _<_}
+use mathlib.Core.Bool.{cond}
+use mathlib.Core.List.{List, [], _∷_}
+use mathlib.Core.Path.{_≡_, refl, sym, _∙_, ap, ap₂}
+use native.Mathlib.Nat.{add-zero, add-sub-cancel-left}
+use lib.Dec.{eqb, lit<}
+use lib.ListN.{length, getD, take, drop}
+use lib.Seq.{getD-take, getD-drop}
+use borrow.Author.Tests.{eq-eqb, ne-eqb}
+use Rattle.message.specs.declared.Message.{Message}
+use Rattle.message.specs.Form.{fieldsMessage, decode}
+use Rattle.slots.specs.Table.{Unused, Used, slotSize}
+use Rattle.slots.specs.Table.Laws.{slotAt}
+use Rattle.slots.specs.Table.Scan.{peekSlot, peekTable}
+use Rattle.slots.specs.View.Bytes.{leadingMessages}
+use Rattle.slots.specs.View.Laws.{leading-used, leading-unused, leading-end}
+
+unfoldable pub messageAt : List ℕ → ℕ → Message
+messageAt t at = fieldsMessage (getD t at 0) (getD t (at + 1) 0) (getD t (at + 2) 0) (getD t (at + 3) 0) (getD t (at + 4) 0) (getD t (at + 5) 0)
+
+abbrev pub ahead : List ℕ → ℕ → List Message
+ahead t k = leadingMessages (drop k (peekTable t))
+
+-- the slot's bytes, at their places in the table
+decode-part : (t : List ℕ) (from : ℕ) → decode (take slotSize (drop from t)) ≡ messageAt t from
+unfolding decode messageAt
+decode-part t from = rw (byte 0 (lit< tt), byte 1 (lit< tt), byte 2 (lit< tt), byte 3 (lit< tt), byte 4 (lit< tt), byte 5 (lit< tt), add-zero)
+  where
+    byte : (j : ℕ) → j < slotSize → getD (take slotSize (drop from t)) j 0 ≡ getD t (from + j) 0
+    byte j h = getD-take slotSize (drop from t) j 0 h ∙ getD-drop from t j 0
+
+peek-part : (t : List ℕ) (from : ℕ) → peekSlot (take slotSize (drop from t)) ≡ cond (eqb (getD t from 0) 0) Unused (Used (messageAt t from))
+unfolding peekSlot
+peek-part t from = ap₂ (λ (x : ℕ) (m : Message). cond (eqb x 0) Unused (Used m)) first (decode-part t from)
+  where
+    first : getD (take slotSize (drop from t)) 0 0 ≡ getD t from 0
+    first = getD-take slotSize (drop from t) 0 0 (lit< tt) ∙ getD-drop from t 0 0 ∙ ap (λ (j : ℕ). getD t j 0) (add-zero from)
+
+module _ (t : List ℕ) (k : ℕ) where
+  module _ (h : k < length t / slotSize) where
+    peek-at : getD (peekTable t) k Unused ≡ cond (eqb (getD t (k * slotSize) 0) 0) Unused (Used (messageAt t (k * slotSize)))
+    unfolding peekTable peekSlot
+    peek-at = sym (rw (add-sub-cancel-left (k * slotSize) slotSize) at (slotAt peekSlot Unused refl t k h)) ∙ peek-part t (k * slotSize)
+
+    pub ahead-used : (getD t (k * slotSize) 0 ≡ 0 → ⊥) → ahead t k ≡ messageAt t (k * slotSize) ∷ ahead t (k + 1)
+    ahead-used n = leading-used t k h (messageAt t (k * slotSize)) (peek-at ∙ rw (ne-eqb _ _ n))
+
+    pub ahead-unused : getD t (k * slotSize) 0 ≡ 0 → ahead t k ≡ []
+    ahead-unused e = leading-unused t k h (peek-at ∙ rw (eq-eqb _ _ e))
+
+  pub ahead-end : length t / slotSize ≤ k → ahead t k ≡ []
+  ahead-end h = leading-end t k h

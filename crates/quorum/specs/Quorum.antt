@@ -1,0 +1,19 @@
+-- Sets of acceptors (document 01: "A majority is any set of acceptors with 2 × size > A").
+--     countAcceptors     how many of the first so many acceptors pass a test
+--     isMajority         whether so many of so many acceptors are a majority
+--     isQuorum           whether those of so many acceptors that pass a test are a majority
+-- Its laws are in Quorum/Laws.antt. Assumes nothing.
+pub mod Laws
+use Prim.Native.Nat.{ℕ, zero, suc, _+_, _*_}
+use mathlib.Core.Bool.{Bool, cond}
+use lib.Dec.{ltb}
+
+unfoldable pub countAcceptors : ℕ → (ℕ → Bool) → ℕ
+countAcceptors zero test = 0
+countAcceptors (suc total) test = cond (test 0) 1 0 + countAcceptors total (λ a. test (suc a))
+
+unfoldable pub isMajority : ℕ → ℕ → Bool
+isMajority total size = ltb total (2 * size)
+
+unfoldable pub isQuorum : ℕ → (ℕ → Bool) → Bool
+isQuorum total test = isMajority total (countAcceptors total test)

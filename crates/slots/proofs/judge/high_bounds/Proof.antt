@@ -1,0 +1,28 @@
+-- `slots::judge::high_bounds` meets its contract: the rows one after the other. Assumes nothing.
+use borrow.Author.Needs.{needs}
+use Rattle.message.specs.Plan.Laws.{plan-bounds}
+use Rattle.slots.specs.Table.Laws.Bounds.{noRows, highs}
+use Rattle.slots.proofs.judge.high_bounds.Statement.{statement}
+use Rattle.slots.proofs.judge.high_bounds.Tie as tie
+
+pub high-bounds-spec : {M : Type 1} → statement M
+unfolding highs noRows
+high-bounds-spec =
+    tie.close
+    (tie.spec
+    (λ c. plan-bounds _ (c .before .pre) .rms-least)
+    (λ c. plan-bounds _ (c .before .before .pre) .acceptors-least)
+    (λ c κs. search needs)
+    (λ c κs. search needs)
+    (λ c κs. search needs)
+    (λ c κs. search needs)
+    (λ c κs. search needs)
+    (λ c κs. search needs)
+    (λ c. rw (
+      c .put-row6 .ensures,
+      c .before .before .put-row5 .ensures,
+      c .before .before .before .before .put-row4 .ensures,
+      c .before .before .before .before .before .before .put-row3 .ensures,
+      c .before .before .before .before .before .before .before .before .put-row2 .ensures,
+      c .before .before .before .before .before .before .before .before .before .before .put-row .ensures,
+    )))

@@ -1,0 +1,29 @@
+-- `slots::judge::put_row` meets its contract: the five stores. Assumes nothing.
+use mathlib.Core.Path.{refl}
+use borrow.Author.Needs.{needs}
+use Rattle.slots.specs.Table.Laws.Bounds.{putBound, putRow}
+use Rattle.slots.proofs.judge.put_row.Statement.{statement}
+use Rattle.slots.proofs.judge.put_row.Tie as tie
+
+pub put-row-spec : {M : Type 1} → statement M
+unfolding putRow putBound
+put-row-spec =
+    tie.close
+    (tie.spec
+    (λ c. search needs)
+    (λ c. search needs)
+    (λ c. search needs)
+    (λ c. search needs)
+    (λ c. search needs)
+    (λ c. search needs)
+    (λ c. search needs)
+    (λ c. search needs)
+    (λ c. search needs)
+    (λ c. search needs)
+    (λ c. search needs)
+    (λ c. search needs)
+    (λ c. search needs)
+    (λ c. search needs)
+    (λ c. search needs)
+    (λ c. search needs)
+    (λ c. refl))

@@ -1,0 +1,79 @@
+-- `slots::search::locate_form` meets its contract: looking from `place` on gives what looking from the start gives. Assumes nothing.
+use Rattle.slots.specs.Table.Scan.{locate, locateFrom}
+use Prim.Native.Nat.{_≤_, _-_}
+use mathlib.Core.Path.{_≡_, refl, sym, _∙_}
+use lib.ListN.{drop}
+use borrow.Author.Needs.{needs}
+use Rattle.slots.specs.Table.{slots}
+use Rattle.slots.proofs.Look.{locate-free, locate-at, locate-next, locate-end}
+use Rattle.slots.proofs.search.locate_form.Statement.{statement}
+use Rattle.slots.proofs.search.locate_form.Tie as tie
+
+abbrev Inv-loop : tie.InvT-loop
+Inv-loop table form head tail count place₀ place = (place ≤ count) ×
+    (locateFrom place (drop place (slots table)) form ≡ locateFrom 0 (slots table) form)
+
+abbrev μ-loop : tie.MeasureT-loop
+μ-loop table form head tail count place₀ place = count - place
+
+pub locate-form-spec : {M : Type 1} → statement M
+unfolding locate
+locate-form-spec =
+    tie.close
+    (tie.spec
+    Inv-loop
+    μ-loop
+    (λ c. search needs)
+    (λ c. search needs)
+    (λ c κs. tt)
+    (λ c. search needs)
+    (λ c. search needs)
+    (λ c. search needs)
+    (λ c. search needs)
+    (λ c κs. tt)
+    (λ c. (search needs, refl))
+    (λ c. search needs)
+    (λ c. search needs)
+    (λ c. sym (locate-free _ _ _ (c .before .before .loop-test .taken) (c .if1 .taken)) ∙ c .before .before .before .loop .inv .1)
+    (λ c. search needs)
+    (λ c. search needs)
+    (λ c. search needs)
+    (λ c κs. tt)
+    (λ c. search needs)
+    (λ c. search needs)
+    (λ c. search needs)
+    (λ c. search needs)
+    (λ c. search needs)
+    (λ c. search needs)
+    (λ c. search needs)
+    (λ c. search needs)
+    (λ c κs. tt)
+    (λ c κs. tt)
+    (λ c. sym (locate-at _ _ _
+    (c .before .before .before .before .before .before .before .before .before .before .before .before .loop-test .taken)
+    (c .before .before .before .before .before .before .before .before .before .before .before .before .before .before .before .before
+    .before .before .before .before .before .before .before .pre) _ _ _ _ (c .before .differ .result)
+    (c .before .before .before .before .before .before .before .before .before .before .before .before .before .before .before .before
+    .before .before .before .word .ensures)
+    (c .before .before .before .before .before .before .before .before .before .before .before .before .before .before .word2 .ensures)
+    (c .before .before .before .before .before .before .before .before .before .before .if1 .left)
+    (c .before .before .before .before .before .before .before .word3 .ensures) (c .before .before .word4 .ensures)
+    (c .before .differ .ensures) (c .if2 .taken)) ∙
+    c .before .before .before .before .before .before .before .before .before .before .before .before .before .loop .inv .1)
+    (λ c. search needs)
+    (λ c. search needs)
+    (λ c. (
+      search needs,
+      locate-next _ _ _
+          (c .before .before .before .before .before .before .before .before .before .before .before .before .loop-test .taken)
+          (c .before .before .before .before .before .before .before .before .before .before .before .before .before .before .before .before
+          .before .before .before .before .before .before .before .pre) _ _ _ _ (c .before .differ .result)
+          (c .before .before .before .before .before .before .before .before .before .before .before .before .before .before .before .before
+          .before .before .before .word .ensures)
+          (c .before .before .before .before .before .before .before .before .before .before .before .before .before .before .word2 .ensures)
+          (c .before .before .before .before .before .before .before .before .before .before .if1 .left)
+          (c .before .before .before .before .before .before .before .word3 .ensures) (c .before .before .word4 .ensures)
+          (c .before .differ .ensures) (c .if2 .left) ∙
+          c .before .before .before .before .before .before .before .before .before .before .before .before .before .loop .inv .1,
+    ))
+    (λ c. sym (locate-end _ _ _ (c .loop-test .left)) ∙ c .before .loop .inv .1))

@@ -1,0 +1,42 @@
+-- Bytes as one number.
+--     Word                      the number of four bytes, and each byte as a digit of it
+--     word-same, word-other     the two numbers of six bytes are the same exactly when the bytes are
+-- Assumes nothing.
+use Prim.Native.Nat.{ℕ, _+_, _*_, _/_, _%_}
+use mathlib.Core.Bool.{true, false, _&&_}
+use mathlib.Core.List.{List, [], _∷_}
+use mathlib.Core.Path.{_≡_, sym, _∙_}
+use lib.Dec.{eqb}
+use borrow.Author.Tests.{eq-eqb, eqb-true}
+use Rattle.message.specs.Outcome.Laws.{both}
+use Rattle.slots.specs.Table.{sameBytes}
+use Rattle.slots.specs.Table.Scan.Laws.{sameBytes-refl, sameBytes-false}
+
+pub record Word (b0 b1 b2 b3 r : ℕ) : Type 0 where
+  pub sum : r ≡ b0 + b1 * 0x100 + b2 * 0x10000 + b3 * 0x1000000
+  pub digit0 : r % 0x100 ≡ b0
+  pub digit1 : r / 0x100 % 0x100 ≡ b1
+  pub digit2 : r / 0x10000 % 0x100 ≡ b2
+  pub digit3 : r / 0x1000000 ≡ b3
+
+-- six bytes as two numbers; `d` is what the code makes of the two pairs
+module _ {a0 a1 a2 a3 a4 a5 b0 b1 b2 b3 b4 b5 h k t u : ℕ}
+    (w : Word a0 a1 0 0 h) (x : Word a2 a3 a4 a5 t) (y : Word b0 b1 0 0 k) (z : Word b2 b3 b4 b5 u) where
+  same-bytes : h ≡ k → t ≡ u → _≡_ {A = List ℕ} (a0 ∷ a1 ∷ a2 ∷ a3 ∷ a4 ∷ a5 ∷ []) (b0 ∷ b1 ∷ b2 ∷ b3 ∷ b4 ∷ b5 ∷ [])
+  same-bytes p q = cc
+
+  same-front : _≡_ {A = List ℕ} (a0 ∷ a1 ∷ a2 ∷ a3 ∷ a4 ∷ a5 ∷ []) (b0 ∷ b1 ∷ b2 ∷ b3 ∷ b4 ∷ b5 ∷ []) → h ≡ k
+  same-front p = cc
+
+  same-back : _≡_ {A = List ℕ} (a0 ∷ a1 ∷ a2 ∷ a3 ∷ a4 ∷ a5 ∷ []) (b0 ∷ b1 ∷ b2 ∷ b3 ∷ b4 ∷ b5 ∷ []) → t ≡ u
+  same-back p = cc
+
+  module _ (d : ℕ) (e : eqb d 0 ≡ (eqb h k && eqb t u)) where
+    pub word-same : d ≡ 0 → sameBytes (a0 ∷ a1 ∷ a2 ∷ a3 ∷ a4 ∷ a5 ∷ []) (b0 ∷ b1 ∷ b2 ∷ b3 ∷ b4 ∷ b5 ∷ []) ≡ true
+    word-same n =
+        let p = both (eqb h k) (eqb t u) (sym e ∙ eq-eqb d 0 n) in
+        rw (same-bytes (eqb-true h k (p .0)) (eqb-true t u (p .1))) (sameBytes-refl (b0 ∷ b1 ∷ b2 ∷ b3 ∷ b4 ∷ b5 ∷ []))
+
+    pub word-other : (d ≡ 0 → ⊥) → sameBytes (a0 ∷ a1 ∷ a2 ∷ a3 ∷ a4 ∷ a5 ∷ []) (b0 ∷ b1 ∷ b2 ∷ b3 ∷ b4 ∷ b5 ∷ []) ≡ false
+    word-other n =
+        sameBytes-false _ _ (λ p. n (eqb-true d 0 (e ∙ rw (eq-eqb h k (same-front p), eq-eqb t u (same-back p)))))

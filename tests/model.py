@@ -1,0 +1,394 @@
+"""A model of document 01, written from its text alone: the plan, the messages with reader and writer, the tables, the nine
+events, the three role calls, the record (opening and the event call), and the rehearsal. It shares nothing with the crates.
+
+    read, write                     the reader and the writer
+    role_call                       the step of a resource manager, an acceptor or a leader as a call by itself
+    open_record, event_call         the record's two calls
+    rehearse                        what the rehearsal prints
+
+A resource manager is document 01's weight. A call gives a tuple: 0, then what is accepted, or the refusal's number alone.
+Tables are `bytes`; a refused call gives none, since they keep every byte. docs/DECISIONS.md says how open points are read.
+"""
+
+from functools import lru_cache
+from typing import NamedTuple, Optional
+
+
+class Plan(NamedTuple):
+    """How many resource managers (n), acceptors (A) and leaders (L)."""
+    rms: int
+    acceptors: int
+    leaders: int
+
+
+class Refused(Exception):
+    """A refusal by its number."""
+
+
+def refuse_if(test, number):
+    if test:
+        raise Refused(number)
+
+
+def call(function):
+    """A call answers 0 and what its function gives, or the refusal's number alone."""
+    def answer(*arguments):
+        try:
+            return (0,) + function(*arguments)
+        except Refused as refused:
+            return refused.args
+    return answer
+
+
+def judge_plan(plan):
+    refuse_if(not (1 <= plan.rms <= 16 and 1 <= plan.acceptors <= 7 and 1 <= plan.leaders <= 4), 1)
+
+
+# ---- Messages (document 01, "Message bytes") ----
+
+SLOT = 6
+PREPARED, ABORTED = 1, 2          # values
+COMMIT, ABORT = 1, 2              # decisions
+
+# The fields by their bits: bit 0 ins, bit 1 acc, bit 2 mbal, bit 3 bal, bit 4 val.
+FIELDS = ("ins", "acc", "mbal", "bal", "val")
+# map: kind, bytes
+MAPS = {0x09: ("1a", 3), 0x07: ("1b", 4), 0x1F: ("1b", 6), 0x19: ("2a", 4), 0x1B: ("2b", 5), 0x10: ("decision", 2)}
+
+
+class Message(NamedTuple):
+    """A message with raw bytes in the fields that it has. A 1b without a vote has neither bal nor val."""
+    kind: str
+    ins: Optional[int] = None
+    acc: Optional[int] = None
+    mbal: Optional[int] = None
+    bal: Optional[int] = None
+    val: Optional[int] = None
+
+
+def fields_of(map_byte):
+    """The fields whose bits stand in the map, in order."""
+    return [field for bit, field in enumerate(FIELDS) if map_byte >> bit & 1]
+
+
+def form(message):
+    """The bytes of a message: its map, then its fields."""
+    has = [bit for bit, field in enumerate(FIELDS) if getattr(message, field) is not None]
+    return bytes([sum(1 << bit for bit in has)] + [getattr(message, FIELDS[bit]) for bit in has])
+
+
+def slot_of(message):
+    """A used slot: a message followed by zeros."""
+    return form(message) + bytes(SLOT - len(form(message)))
+
+
+def decode(part):
+    """The message that begins with a known map."""
+    return Message(MAPS[part[0]][0], **dict(zip(fields_of(part[0]), part[1:])))
+
+
+def in_range(plan, m):
+    """Row 17 does not apply."""
+    return ((m.ins is None or m.ins < plan.rms) and (m.acc is None or m.acc < plan.acceptors)
+            and (m.val is None or m.val in (1, 2)) and not (m.kind == "1a" and m.bal == 0))
+
+
+@call
+def read(plan, part):
+    """The reader on a slice that is to be exactly one message: the message."""
+    judge_plan(plan)
+    refuse_if(len(part) == 0 or part[0] not in MAPS, 15)
+    refuse_if(len(part) != MAPS[part[0]][1], 16)
+    message = decode(part)
+    refuse_if(not in_range(plan, message), 17)
+    return (message,)
+
+
+@call
+def written(plan, message):
+    judge_plan(plan)
+    refuse_if(not in_range(plan, message), 17)
+    return slot_of(message), len(form(message))
+
+
+def write(plan, message):
+    """The writer: number, six bytes, length; zeros if it refuses."""
+    outcome = written(plan, message)
+    return outcome if outcome[0] == 0 else (outcome[0], bytes(SLOT), 0)
+
+
+# ---- Tables ("The plan and four tables", rows 2 to 6) ----
+
+MAX_SLOTS = 1024
+UNUSED = bytes(SLOT)
+WORKING, RM_PREPARED, COMMITTED, RM_ABORTED = range(4)
+
+
+def slots_of(table):
+    return [table[at:at + SLOT] for at in range(0, len(table), SLOT)]
+
+
+def messages(table):
+    """The messages of a sound table in their order."""
+    return [decode(slot) for slot in slots_of(table) if slot != UNUSED]
+
+
+def is_slot_table(table):
+    """Whole slots, at most 1,024."""
+    return len(table) % SLOT == 0 and len(table) // SLOT <= MAX_SLOTS
+
+
+def is_readable(plan, slot):
+    """A message that the reader takes, with zeros after it."""
+    return any(read(plan, slot[:length])[0] == 0 and not any(slot[length:]) for length in range(1, SLOT + 1))
+
+
+@lru_cache(maxsize=256)
+def is_sound(plan, table):
+    """Rows 5 and 6: each slot is unused or readable, and the used ones come first."""
+    slots = slots_of(table)
+    used = slots.index(UNUSED) if UNUSED in slots else len(slots)
+    return all(slot == UNUSED for slot in slots[used:]) and all(is_readable(plan, slot) for slot in slots[:used])
+
+
+def are_states(states):
+    """Row 3 does not apply."""
+    return all(state <= 3 for state in states)
+
+
+def are_votes(votes):
+    """Row 4 does not apply."""
+    cast = [(votes[at + 1], votes[at + 2]) for at in range(0, len(votes), 3)]
+    return all(val <= 2 and (val != 0 or bal == 0) for bal, val in cast)
+
+
+def put(table, message, number):
+    """A message appended unless an equal one is there: the first slot where it stands, and the table."""
+    slots, slot = slots_of(table), slot_of(message)
+    if slot not in slots:
+        refuse_if(UNUSED not in slots, number)
+        slots[slots.index(UNUSED)] = slot
+    return slots.index(slot), b"".join(slots)
+
+
+def set_bytes(table, at, values):
+    """The table with other bytes from a place on."""
+    return table[:at] + bytes(values) + table[at + len(values):]
+
+
+# ---- The nine events: each gives the slot (None for quiet), the role's table and the network ----
+
+def slot_read(network, high, low, kinds):
+    """The message in the slot of kinds 2, 3 and 4: rows 8 and 9."""
+    slots, place = slots_of(network), 256 * high + low
+    refuse_if(place >= len(slots) or slots[place] == UNUSED, 8)
+    message = decode(slots[place])
+    refuse_if(message.kind not in kinds, 9)
+    return message
+
+
+def leave_working(state, value):
+    """RMPrepare and RMChooseToAbort."""
+    def leaving(plan, states, network, who, high, low):
+        refuse_if(states[who] != WORKING, 12)
+        slot, network = put(network, Message("2a", ins=who, bal=0, val=value), 13)
+        return slot, set_bytes(states, who, [state]), network
+    return leaving
+
+
+def rm_receive(plan, states, network, who, high, low):
+    """RMRcvCommitMsg and RMRcvAbortMsg."""
+    commit = slot_read(network, high, low, ["decision"]).val == COMMIT
+    refuse_if(states[who] in ((WORKING, RM_ABORTED) if commit else (COMMITTED,)), 11)
+    return None, set_bytes(states, who, [COMMITTED if commit else RM_ABORTED]), network
+
+
+def acceptor_receive(plan, votes, network, who, high, low):
+    """Phase1b and Phase2b."""
+    m = slot_read(network, high, low, ["1a", "2a"])
+    at = 3 * (m.ins * plan.acceptors + who)
+    mbal, bal, val = votes[at:at + 3]
+    if m.kind == "1a":
+        refuse_if(not mbal < m.bal, 12)
+        vote = {"bal": bal, "val": val} if val != 0 else {}
+        slot, network = put(network, Message("1b", ins=m.ins, acc=who, mbal=m.bal, **vote), 13)
+        return slot, set_bytes(votes, at, [m.bal]), network
+    refuse_if(not mbal <= m.bal, 12)
+    slot, network = put(network, Message("2b", ins=m.ins, acc=who, bal=m.bal, val=m.val), 13)
+    return slot, set_bytes(votes, at, [m.bal, m.bal, m.val]), network
+
+
+def receipt(plan, inbox, network, who, high, low):
+    _, inbox = put(inbox, slot_read(network, high, low, ["1b", "2b"]), 14)
+    return None, inbox, network
+
+
+def judge_owned(plan, leader, ballot):
+    refuse_if(not (ballot > 0 and ballot % plan.leaders == leader), 10)
+
+
+def is_majority(plan, acceptors):
+    return 2 * len(set(acceptors)) > plan.acceptors
+
+
+def phase1a(plan, inbox, network, who, high, low):
+    judge_owned(plan, who, low)
+    slot, network = put(network, Message("1a", ins=high, bal=low), 13)
+    return slot, inbox, network
+
+
+def proposed_value(reports):
+    """The value in the 1b with the highest bal, of several the first; 2 where none reports a vote."""
+    votes = [m for m in reports if m.val is not None]
+    return max(votes, key=lambda m: m.bal).val if votes else ABORTED
+
+
+def phase2a(plan, inbox, network, who, high, low):
+    judge_owned(plan, who, low)
+    here = messages(inbox)
+    refuse_if(any(m.kind == "2a" and (m.ins, m.bal) == (high, low) for m in here), 12)
+    reports = [m for m in here if m.kind == "1b" and (m.ins, m.mbal) == (high, low)]
+    refuse_if(not is_majority(plan, [m.acc for m in reports]), 12)
+    proposal = Message("2a", ins=high, bal=low, val=proposed_value(reports))
+    slot, network = put(network, proposal, 13)
+    _, inbox = put(inbox, proposal, 14)
+    return slot, inbox, network
+
+
+def is_decided(plan, inbox, i, v):
+    """Decided(i, v)."""
+    votes = [m for m in messages(inbox) if m.kind == "2b" and (m.ins, m.val) == (i, v)]
+    return any(is_majority(plan, [m.acc for m in votes if m.bal == b]) for b in range(256))
+
+
+def decide(quantifier, value):
+    """Kind 7 needs Decided(i, 1) for all i, kind 8 Decided(i, 2) for some i."""
+    def deciding(plan, inbox, network, who, high, low):
+        refuse_if(not quantifier(is_decided(plan, inbox, i, value) for i in range(plan.rms)), 12)
+        slot, network = put(network, Message("decision", val=value), 13)
+        return slot, inbox, network
+    return deciding
+
+
+RM, ACCEPTOR, LEADER = "rm", "acceptor", "leader"
+ROLES = (RM, ACCEPTOR, LEADER)
+KINDS = {
+    RM: {0: leave_working(RM_PREPARED, PREPARED), 1: leave_working(RM_ABORTED, ABORTED), 2: rm_receive},
+    ACCEPTOR: {3: acceptor_receive},
+    LEADER: {4: receipt, 5: phase1a, 6: phase2a, 7: decide(all, COMMIT), 8: decide(any, ABORT)},
+}
+
+
+def role_of(kind):
+    """The role that a kind belongs to, or None."""
+    return next((role for role in ROLES if kind in KINDS[role]), None)
+
+
+def judge_event(plan, event):
+    """Row 7."""
+    refuse_if(len(event) != 4, 7)
+    kind, who, high, low = event
+    refuse_if(role_of(kind) is None or who >= plan[ROLES.index(role_of(kind))], 7)
+    refuse_if(kind in (5, 6) and high >= plan.rms, 7)
+    refuse_if(kind in (0, 1, 7, 8) and (high, low) != (0, 0), 7)
+
+
+def act(plan, table, network, event):
+    """An event on the table of its role and on N, both judged."""
+    kind, who, high, low = event
+    return KINDS[role_of(kind)][kind](plan, table, network, who, high, low)
+
+
+# ---- A role's own call ----
+
+@call
+def role_call(role, plan, table, network, event):
+    """A role's step by itself: slot or None, the role's table, the network."""
+    judge_plan(plan)
+    allowed = {RM: len(table) == plan.rms, ACCEPTOR: len(table) == 3 * plan.rms * plan.acceptors,
+               LEADER: is_slot_table(table)}
+    refuse_if(not (allowed[role] and is_slot_table(network)), 2)
+    refuse_if(role == RM and not are_states(table), 3)
+    refuse_if(role == ACCEPTOR and not are_votes(table), 4)
+    refuse_if(not is_sound(plan, network), 5)
+    refuse_if(role == LEADER and not is_sound(plan, table), 6)
+    judge_event(plan, event)
+    refuse_if(event[0] not in KINDS[role], 7)
+    return act(plan, table, network, event)
+
+
+# ---- The record: W, Q, N and I ----
+
+class Record(NamedTuple):
+    """W, Q, N and I."""
+    states: bytes
+    votes: bytes
+    network: bytes
+    inboxes: bytes
+
+
+def judge_lengths(plan, record):
+    """Row 2."""
+    whole = SLOT * plan.leaders
+    fits = (len(record.states) == plan.rms and len(record.votes) == 3 * plan.rms * plan.acceptors
+            and is_slot_table(record.network)
+            and len(record.inboxes) % whole == 0 and len(record.inboxes) // whole <= MAX_SLOTS)
+    refuse_if(not fits, 2)
+
+
+@call
+def open_record(plan, record):
+    """Opening: the record with every byte zero."""
+    judge_plan(plan)
+    judge_lengths(plan, record)
+    return (Record(*(bytes(len(table)) for table in record)),)
+
+
+def inbox_of(plan, record, leader):
+    """Where a leader's part of I begins, and the part."""
+    size = len(record.inboxes) // plan.leaders
+    return leader * size, record.inboxes[leader * size:(leader + 1) * size]
+
+
+@call
+def event_call(plan, record, event):
+    """The event call: slot or None, the record after it."""
+    judge_plan(plan)
+    judge_lengths(plan, record)
+    refuse_if(not are_states(record.states), 3)
+    refuse_if(not are_votes(record.votes), 4)
+    refuse_if(not is_sound(plan, record.network), 5)
+    refuse_if(not all(is_sound(plan, inbox_of(plan, record, leader)[1]) for leader in range(plan.leaders)), 6)
+    judge_event(plan, event)
+    role, who = role_of(event[0]), event[1]
+    if role == RM:
+        slot, states, network = act(plan, record.states, record.network, event)
+        return slot, record._replace(states=states, network=network)
+    if role == ACCEPTOR:
+        slot, votes, network = act(plan, record.votes, record.network, event)
+        return slot, record._replace(votes=votes, network=network)
+    begin, inbox = inbox_of(plan, record, who)
+    slot, inbox, network = act(plan, inbox, record.network, event)
+    return slot, record._replace(inboxes=set_bytes(record.inboxes, begin, inbox), network=network)
+
+
+# ---- The rehearsal ----
+
+MAX_EVENTS = 8192
+
+
+def rehearse(text):
+    """What the rehearsal prints for the bytes of its standard input."""
+    plan = Plan(*text[:3], *bytes(3 - len(text[:3])))
+    record = Record(bytes(plan.rms), bytes(3 * plan.rms * plan.acceptors), bytes(SLOT * MAX_SLOTS),
+                    bytes(SLOT * MAX_SLOTS * plan.leaders))
+    outcome = open_record(plan, record)
+    if outcome[0] != 0:
+        return "1\n"
+    record, lines, events = outcome[1], [], text[3:]
+    for at in range(0, min(len(events), 4 * MAX_EVENTS), 4):
+        outcome = event_call(plan, record, events[at:at + 4])
+        lines.append("%d" % outcome[0])
+        record = outcome[2] if outcome[0] == 0 else record
+    ends = {frozenset([COMMITTED]): "COMMITTED", frozenset([RM_ABORTED]): "ABORTED"}
+    return "\n".join(lines + [ends.get(frozenset(record.states), "OPEN")]) + "\n"
