@@ -6,12 +6,14 @@
 --     and for each action: an accepted call sets what the published action sets; the sent message, the answered slot and every byte are given.
 --     majorities-meet     a plan's majorities are as document 001 assumes them, so the theorems of paxos_commit hold at every plan
 --     readable-messages   a message in range is one of document 001's set Message
---     rm-member, acceptor-member, leader-instance     the process and the instance of an accepted event are the plan's
+--     well-formed         rows 5 and 6 in terms of messages
+--     rm-member, acceptor-member, leader-member, leader-instance     the process and the instance of an accepted event are the plan's
 --     leader-proposal, one-owner     the value that a leader proposes; the ballots that it owns
 -- Each action is at the plan's constants; the variables that are no business of the role (`aState`, `rmState`) are any.
 -- Assumes nothing.
 use Prim.Native.Nat.{ℕ, _+_, _≤_, _<_}
 use mathlib.Core.List.{List, _∷_, _++_}
+use mathlib.Core.Logic.{_↔_}
 use mathlib.Core.Path.{_≡_, refl}
 use lib.ListN.{length, set}
 use Rattle.message.specs.declared.Plan.{Plan}
@@ -20,21 +22,21 @@ use Rattle.message.specs.declared.Message.the-variants.{Phase1a, Phase2a, Phase
 use Rattle.message.specs.Outcome.{accepted, refused}
 use Rattle.message.specs.Rows.{Lowest}
 use Rattle.message.specs.Rows.Laws.{isAscending, lowest-of-ruled}
-use Rattle.slots.specs.Table.{messages}
+use Rattle.slots.specs.Table.{isTableLength, isTable, messages}
 use Rattle.slots.specs.Send.{messageAt}
 use Rattle.change.specs.declared.Sent.the-variants.{Quiet}
 use Rattle.change.specs.Change.{Step}
-use Rattle.change.specs.Change.{refusal}
 use Rattle.event.specs.Event.{kindOf, whoOf, slotNumber, highOf, lowOf}
 use Rattle.tcommit.specs.RmState.{prepared, committed, aborted}
 use Rattle.paxos_commit.specs.PaxosCommit.{Assume, IsMessage, Commit, Abort, AState, State, Message, phase2a}
 use Rattle.rm.specs.Rm.{rmJudged, rmStep}
 use Rattle.acceptor.specs.Acceptor.{voteAt, acceptorJudged, acceptorStep}
-use Rattle.event.specs.Event.Laws.{rm-who, acceptor-who, event-instance}
+use Rattle.event.specs.Event.Laws.{rm-who, acceptor-who, leader-who, event-instance}
 use Rattle.message.specs.Form.{isInRange}
 use Rattle.matching.specs.Reading.{isRM, isAcceptor, isMajoritySet, valOf, messageOf, setOf}
 use Rattle.matching.specs.Reading.Laws.{plan-assumes, range-is-message}
-use Rattle.matching.specs.Call.{Accepted, Sends, Stores}
+use Rattle.matching.specs.Call.{Accepted, HeldBy, Sends, Stores}
+use Rattle.matching.specs.Call.Laws.{table-form, tables-kept}
 use Rattle.matching.specs.Rm.{RMPrepare, RMChooseToAbort, RMRcvCommitMsg, RMRcvAbortMsg, stateOf, rmRows}
 use Rattle.matching.specs.Rm.Ruled.{rm-ruled}
 use Rattle.matching.specs.Rm.Laws as Rm
@@ -58,12 +60,17 @@ majorities-meet = plan-assumes
 pub readable-messages : (p : Plan) (m : Wire.Message) → isInRange p m ≡ true → IsMessage (isRM p) (isAcceptor p) (isMajoritySet p) (messageOf m)
 readable-messages = range-is-message
 
+-- rows 5 and 6: a table is well formed exactly where its bytes are the slots of messages in range, then unused ones
+pub well-formed : (p : Plan) (t : List ℕ) → isPlan p ≡ true → isTableLength (length t) ≡ true
+    → (isTable p t ≡ true) ↔ ((ms : List Wire.Message) × HeldBy p t ms)
+well-formed = table-form
+
 module _ (p : Plan) (states network e : List ℕ) where
   abbrev rm : Step
   rm = rmStep p states network e
 
-  pub rm-keeps : (k : ℕ) → rm .answer ≡ refused k → rm ≡ refusal states network k
-  rm-keeps = Rm.keeps p states network e
+  pub rm-keeps : (k : ℕ) → rm .answer ≡ refused k → (rm .table ≡ states) × (rm .network ≡ network)
+  rm-keeps k is = tables-kept (Rm.keeps p states network e k is)
 
   pub rm-sound : rmJudged p states network ≡ accepted tt
       → (rmJudged p (rm .table) (rm .network) ≡ accepted tt) × (length (rm .table) ≡ length states) × (length (rm .network) ≡ length network)
@@ -113,8 +120,8 @@ module _ (p : Plan) (votes network e : List ℕ) where
   abbrev acceptor : Step
   acceptor = acceptorStep p votes network e
 
-  pub acceptor-keeps : (k : ℕ) → acceptor .answer ≡ refused k → acceptor ≡ refusal votes network k
-  acceptor-keeps = Acceptor.keeps p votes network e
+  pub acceptor-keeps : (k : ℕ) → acceptor .answer ≡ refused k → (acceptor .table ≡ votes) × (acceptor .network ≡ network)
+  acceptor-keeps k is = tables-kept (Acceptor.keeps p votes network e k is)
 
   pub acceptor-sound : acceptorJudged p votes network ≡ accepted tt
       → (acceptorJudged p (acceptor .table) (acceptor .network) ≡ accepted tt)
@@ -160,14 +167,17 @@ module _ (p : Plan) (inbox network e : List ℕ) where
   abbrev seen : Message → Type 0
   seen = setOf (messages p inbox)
 
-  pub leader-keeps : (k : ℕ) → leader .answer ≡ refused k → leader ≡ refusal inbox network k
-  leader-keeps = Leader.keeps p inbox network e
+  pub leader-keeps : (k : ℕ) → leader .answer ≡ refused k → (leader .table ≡ inbox) × (leader .network ≡ network)
+  leader-keeps k is = tables-kept (Leader.keeps p inbox network e k is)
 
   pub leader-sound : leaderJudged p inbox network ≡ accepted tt
       → (leaderJudged p (leader .table) (leader .network) ≡ accepted tt)
       × (length (leader .table) ≡ length inbox)
       × (length (leader .network) ≡ length network)
   leader-sound = Leader.stays-sound p inbox network e
+
+  pub leader-member : Accepted (leader .answer) → whoOf e < p .leaders
+  leader-member taken = let t = leader-took p inbox network e taken in leader-who p e (t .event) (t .least)
 
   -- kinds 5 and 6
   pub leader-instance : Accepted (leader .answer) → 4 < kindOf e → kindOf e ≤ 6 → isRM p (highOf e)

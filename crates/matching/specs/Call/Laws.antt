@@ -1,18 +1,21 @@
 -- The laws of calls.
 --     messageAt-cases, member-at, at-member     the slot at a place, and the members of a list
 --     slot-in-range                             the message in a slot of a judged table is in range
+--     table-form                                a well-formed table is one that holds messages in range
 --     Stored, stored                            a table after an accepted store, all that is said of it
 --     has-room, no-room                         a store is accepted exactly where there is room
 --     clash, ruled-judged, ruled-judged₂, ruled-sound, ruled-slot, ruled-sending, ruled-applied
 --                                               the rows of a call, along its definition
+--     tables-kept                               both tables of a refused call
 --     applied-accepted, andThen-accepted, sending-accepted     what an accepted call says of its parts
 -- Assumes nothing.
-use Prim.Native.Nat.{ℕ, zero, suc, _<_}
+use Prim.Native.Nat.{ℕ, zero, suc, _<_, _≤_, zero-le, suc-le-suc}
 use mathlib.Core.Bool.{Bool, true, false, not, false≢true}
 use mathlib.Core.List.{List, [], _∷_, _++_, List·Memᴰ, List·Memᴰ·head, List·Memᴰ·tail}
 use mathlib.Core.List.{List·Memᴰ·not-nil, List·Memᴰ·append-cases, List·Memᴰ·eq-of-singleton, Memᴰ·append-left, Memᴰ·append-right}
 use mathlib.Core.Logic.{_⊎_, inl, inr, _↔_}
 use mathlib.Core.Path.{_≡_, refl, sym, _∙_, ap}
+use native.Mathlib.Nat.{not-suc-le-zero, le-of-suc-le-suc}
 use native.Mathlib.Omega.{arith}
 use lib.ListN.{length}
 use borrow.Author.Tests.{not-false}
@@ -36,16 +39,29 @@ use Rattle.slots.specs.View.{viewTable, sendOf, storeBytes, storeMessages, send
 use Rattle.slots.specs.View.Laws.{PlaceCase, at, free, full, placeCase, Sent, send-sent}
 use Rattle.change.specs.declared.Change.{Change}
 use Rattle.change.specs.declared.Sent as SentType
-use Rattle.change.specs.Change.{applied}
+use Rattle.change.specs.Change.{Step, refusal, applied}
 use Rattle.paxos_commit.specs.PaxosCommit as Source
 use Rattle.matching.specs.Reading.{messageOf, setOf}
-use Rattle.matching.specs.Call.{roomOf, HasRoom, Stores}
+use Rattle.matching.specs.Call.{roomOf, HasRoom, HeldBy, Stores}
 
 pub messageAt-cases : (ms : List Message) (k : ℕ) → (messageAt ms k ≡ refused 8) ⊎ ((m : Message) × (messageAt ms k ≡ accepted m))
 unfolding messageAt
 messageAt-cases [] k = inl refl
 messageAt-cases (m ∷ ms) zero = inr (m, refl)
 messageAt-cases (m ∷ ms) (suc k) = messageAt-cases ms k
+
+-- row 8: the slot is past the last message
+unused-past : (ms : List Message) (k : ℕ) → messageAt ms k ≡ refused 8 → length ms ≤ k
+unfolding messageAt
+unused-past [] k e = zero-le
+unused-past (m ∷ ms) zero e = absurd (accepted-not-refused (sym e))
+unused-past (m ∷ ms) (suc k) e = suc-le-suc (unused-past ms k e)
+
+past-unused : (ms : List Message) (k : ℕ) → length ms ≤ k → messageAt ms k ≡ refused 8
+unfolding messageAt
+past-unused [] k h = refl
+past-unused (m ∷ ms) zero h = absurd (not-suc-le-zero h)
+past-unused (m ∷ ms) (suc k) h = past-unused ms k (le-of-suc-le-suc h)
 
 pub member-at : (ms : List Message) (k : ℕ) (m : Message) → messageAt ms k ≡ accepted m → List·Memᴰ m ms
 unfolding messageAt
@@ -191,14 +207,14 @@ module _ {A B : Type 0} (next : B → Outcome A) where
 module _ {A : Type 0} where
   -- row 8, and what the message goes on to
   pub ruled-slot : (ms : List Message) (k : ℕ) (t : Type 0) (rows : Rows) (next : Message → Outcome A)
-      → (messageAt ms k ≡ refused 8 → t) → (t → messageAt ms k ≡ refused 8)
+      → (length ms ≤ k → t) → (t → length ms ≤ k)
       → ((m : Message) → messageAt ms k ≡ accepted m → Ruled (next m) rows) → Ruled (andThen (messageAt ms k) next) (row 8 t rows)
   unfolding Ruled andThen
   ruled-slot ms k t rows next holds back go = by (messageAt-cases ms k)
     where
       by : (messageAt ms k ≡ refused 8) ⊎ ((m : Message) × (messageAt ms k ≡ accepted m)) → Ruled (andThen (messageAt ms k) next) (row 8 t rows)
-      by (inl e) = rw e (here (refl, (holds e, tt)))
-      by (inr (m, e)) = rw e (ruled-skip 8 _ rows (λ h. accepted-not-refused (sym (back (h .0)) ∙ e)) (next m) (go m e))
+      by (inl e) = rw e (here (refl, (holds (unused-past ms k e), tt)))
+      by (inr (m, e)) = rw e (ruled-skip 8 _ rows (λ h. accepted-not-refused (sym (past-unused ms k (back (h .0))) ∙ e)) (next m) (go m e))
 
   -- rows 13 and 14
   pub ruled-sending : (number : ℕ) (p : Plan) (table : List ℕ) (m : Message) (t : Type 0) (rows : Rows) (go : ℕ → Store → Outcome A)
@@ -234,3 +250,30 @@ pub sending-accepted : {A : Type 0} (number : ℕ) (send : SendType.Send) (go : 
 unfolding sending
 sending-accepted number (Slot slot store) go a e = (slot, store, refl, e)
 sending-accepted number NoRoom go a e = absurd (accepted-not-refused e)
+
+each-in-range : (p : Plan) (ms : List Message) → allInRange p ms ≡ true → (m : Message) → List·Memᴰ m ms → isInRange p m ≡ true
+unfolding allInRange
+each-in-range p [] h m member = absurd (List·Memᴰ·not-nil member)
+each-in-range p (x ∷ ms) h m (List·Memᴰ·head e) = ap (isInRange p) e ∙ both (isInRange p x) (allInRange p ms) h .0
+each-in-range p (x ∷ ms) h m (List·Memᴰ·tail member) = each-in-range p ms (both (isInRange p x) (allInRange p ms) h .1) m member
+
+all-in-range : (p : Plan) (ms : List Message) → ((m : Message) → List·Memᴰ m ms → isInRange p m ≡ true) → allInRange p ms ≡ true
+unfolding allInRange
+all-in-range p [] h = refl
+all-in-range p (x ∷ ms) h = rw (h x (List·Memᴰ·head refl)) (all-in-range p ms (λ m member. h m (List·Memᴰ·tail member)))
+
+-- a well-formed table is one that holds messages in range
+pub table-form : (p : Plan) (t : List ℕ) → isPlan p ≡ true → isTableLength (length t) ≡ true
+    → (isTable p t ≡ true) ↔ ((ms : List Message) × HeldBy p t ms)
+table-form p t plan whole = (there, back)
+  where
+    there : isTable p t ≡ true → (ms : List Message) × HeldBy p t ms
+    there is = let h = holds-judged p t whole is in (messages p t, (h .form, h .fits, each-in-range p (messages p t) (h .inRange)))
+
+    back : (ms : List Message) × HeldBy p t ms → isTable p t ≡ true
+    back (ms, (form, fits, range)) =
+        table-holds p (roomOf t) ms t (record { form = form; fits = fits; inRange = all-in-range p ms range }) plan .0
+
+-- both tables of a refused call
+pub tables-kept : {table network : List ℕ} {k : ℕ} {r : Step} → r ≡ refusal table network k → (r .table ≡ table) × (r .network ≡ network)
+tables-kept e = (ap (λ (r : Step). r .table) e, ap (λ (r : Step). r .network) e)
