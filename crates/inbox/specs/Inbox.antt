@@ -10,6 +10,7 @@ pub mod Slots
 pub mod Reports
 pub mod Votes
 pub mod Bits
+pub mod Quantifiers
 use Prim.Native.Nat.{ℕ, zero, suc}
 use mathlib.Core.Bool.{Bool, true, false, _&&_, _||_, cond}
 use mathlib.Core.List.{List, [], _∷_}

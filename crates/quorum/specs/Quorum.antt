@@ -2,8 +2,9 @@
 --     countAcceptors     how many of the first so many acceptors pass a test
 --     isMajority         whether so many of so many acceptors are a majority
 --     isQuorum           whether those of so many acceptors that pass a test are a majority
--- Its laws are in Quorum/Laws.antt. Assumes nothing.
+-- Its laws are in Quorum/Laws.antt; Quorum/Sets.antt says what a quorum is in document 01's words. Assumes nothing.
 pub mod Laws
+pub mod Sets
 use Prim.Native.Nat.{ℕ, zero, suc, _+_, _*_}
 use mathlib.Core.Bool.{Bool, cond}
 use lib.Dec.{ltb}

@@ -5,7 +5,6 @@
 --     voted-seen, seen-voted           a 2b of (i, b, v) from an acceptor
 --     among, quorum-majority, majority-quorum, majority-some     a test that a majority passes
 --     decided-Decided, Decided-decided Decided(i, v)
---     forAll-all, all-forAll, forSome-some, some-forSome     for all instances, for some
 -- Assumes nothing.
 use Prim.Native.Nat.{ℕ, zero, suc, _+_, _≤_, _<_, zero-le, suc-le-suc}
 use mathlib.Core.Bool.{Bool, true, false, _&&_, _||_, cond, false≢true}
@@ -26,7 +25,7 @@ use Rattle.message.specs.Form.{isValue, isInRange}
 use Rattle.slots.specs.Table.Holds.{allInRange}
 use Rattle.quorum.specs.Quorum.{countAcceptors, isMajority, isQuorum}
 use Rattle.quorum.specs.Quorum.Laws.{quorum-some}
-use Rattle.inbox.specs.Inbox.{any, is1b, is2a, is2b, chosen, isChosen2b, decided, forAll, forSome}
+use Rattle.inbox.specs.Inbox.{any, is1b, is2a, is2b, chosen, isChosen2b, decided}
 use Rattle.paxos_commit.specs.PaxosCommit as Source
 use Rattle.matching.specs.Reading.{isRM, isAcceptor, isMajoritySet, valOf, balOf, voteValOf, messageOf, setOf}
 
@@ -261,40 +260,3 @@ module _ (p : Plan) (ms : List Message) where
       let q : chosen p ms i b v ≡ true = majority-quorum p (d .1) (d .2) _ (λ ac t. seen-voted ms i b p r v h ac (d .3 ac t)) in
       member-any (isChosen2b p ms i v) ms (Phase2b i (a .0) b v) (member-2b ms i b p r v h (a .0) (d .3 (a .0) (a .1)))
       (and-true (eqb i i) _ (eq-eqb i i refl) (and-true (eqb v v) _ (eq-eqb v v refl) q))
-
--- for all, and for some, of the numbers below n
-module _ (test : ℕ → Bool) where
-  below-suc : (i n : ℕ) → i < suc n → (i ≡ n) ⊎ (i < n)
-  below-suc i n h = elim (ℕ-discrete i n) [ yes e ↦ inl e | no k ↦ inr (omega (arith, k)) ]
-
-  pub forAll-all : (n : ℕ) → forAll n test ≡ true → (i : ℕ) → i < n → test i ≡ true
-  unfolding forAll
-  forAll-all zero h i k = absurd (not-suc-le-zero k)
-  forAll-all (suc n) h i k =
-      let t = both (test n) (forAll n test) h in
-      elim (below-suc i n k) [ inl e ↦ ap test e ∙ t .0 | inr l ↦ forAll-all n (t .1) i l ]
-
-  pub all-forAll : (n : ℕ) → ((i : ℕ) → i < n → test i ≡ true) → forAll n test ≡ true
-  unfolding forAll
-  all-forAll zero h = refl
-  all-forAll (suc n) h = and-true _ _ (h n (le-refl _)) (all-forAll n (λ i k. h i (omega arith)))
-
-  pub forSome-some : (n : ℕ) → forSome n test ≡ true → (i : ℕ) × (i < n) × (test i ≡ true)
-  unfolding forSome
-  forSome-some zero h = absurd (false≢true h)
-  forSome-some (suc n) h = go (test n) refl h (forSome-some n)
-    where
-      go : (t : Bool) → test n ≡ t → (t || forSome n test) ≡ true → (forSome n test ≡ true → (i : ℕ) × (i < n) × (test i ≡ true))
-          → (i : ℕ) × (i < suc n) × (test i ≡ true)
-      go true e h rest = (n, le-refl _, e)
-      go false e h rest = let s = rest h in (s .0, omega (arith, s .1), s .2)
-
-  pub some-forSome : (n i : ℕ) → i < n → test i ≡ true → forSome n test ≡ true
-  unfolding forSome
-  some-forSome zero i k h = absurd (not-suc-le-zero k)
-  some-forSome (suc n) i k h = go (test n) refl (below-suc i n k) (some-forSome n i)
-    where
-      go : (t : Bool) → test n ≡ t → (i ≡ n) ⊎ (i < n) → (i < n → test i ≡ true → forSome n test ≡ true) → (test n || forSome n test) ≡ true
-      go true e s rest = rw e
-      go false e (inl s) rest = absurd (false≢true (sym e ∙ ap test (sym s) ∙ h))
-      go false e (inr l) rest = rw e (rest l h)

@@ -25,7 +25,8 @@ use Rattle.matching.specs.Call.{Enabled}
 use Rattle.matching.specs.Leader.{Phase2aAction, CommitAction, AbortAction}
 use Rattle.matching.specs.Leader.Conditions.{phase2a-seen, seen-phase2a, reported-seen, seen-reported, among}
 use Rattle.matching.specs.Leader.Conditions.{quorum-majority, majority-quorum}
-use Rattle.matching.specs.Leader.Conditions.{decided-Decided, Decided-decided, forAll-all, all-forAll, forSome-some, some-forSome}
+use Rattle.inbox.specs.Inbox.Quantifiers.{forAll-all, all-forAll, forSome-some, some-forSome}
+use Rattle.matching.specs.Leader.Conditions.{decided-Decided, Decided-decided}
 use Rattle.matching.specs.Leader.Highest.{proposed-value}
 
 -- s′ is s with x sent, and nothing else

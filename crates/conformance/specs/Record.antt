@@ -1,0 +1,147 @@
+-- What the match of the event call with module PaxosCommit speaks of. The theorems are in Theorems.antt, their proofs in Record/.
+--     stateOf        the variables rmState, aState and msgs, as W, Q and N hold them
+--     ownInbox       the inbox of the event's leader
+--     recordRows     the rows of "Refusals by place" for the event call
+--     Acted          what an accepted event call does: a case for each published action, and for the receipt
+-- The actions at a plan's constants, and each role's part of a row, are those of the crate matching. Assumes nothing.
+pub mod Ruled
+pub mod Opened
+pub mod Steps
+pub mod Acts
+pub mod Roles
+use Prim.Native.Nat.{ℕ, _+_, _*_, _%_, _≤_, _<_}
+use mathlib.Core.Bool.{true, false}
+use mathlib.Core.List.{List}
+use mathlib.Core.Logic.{_⊎_}
+use mathlib.Core.Path.{_≡_}
+use lib.ListN.{length, set}
+use Rattle.message.specs.declared.Plan.{Plan}
+use Rattle.message.specs.declared.Message as Wire
+use Rattle.message.specs.declared.Message.the-variants.{Phase1a, Phase2a, Phase2b, Decision}
+use Rattle.message.specs.Outcome.{Outcome, accepted}
+use Rattle.message.specs.Plan.{isPlan}
+use Rattle.message.specs.Rows.{Rows, end, guard, row, Either}
+use Rattle.slots.specs.Table.{isTableLength, isTable, messages}
+use Rattle.change.specs.declared.Sent.{Sent}
+use Rattle.change.specs.declared.Sent.the-variants.{Quiet}
+use Rattle.event.specs.Event.{kindOf, whoOf, highOf, lowOf, isEvent}
+use Rattle.tcommit.specs.RmState.{prepared, committed, aborted}
+use Rattle.paxos_commit.specs.PaxosCommit.{State, Message, phase2a, Commit, Abort}
+use Rattle.rm.specs.Rm.{areStates}
+use Rattle.acceptor.specs.Acceptor.{voteAt, areVotes}
+use Rattle.leader.specs.Leader.{owns}
+use Rattle.record.specs.Record.{Tables, tablesOf, inboxSize, inboxOf, withInbox}
+use Rattle.matching.specs.Reading.{isRM, isAcceptor, valOf, messageOf, setOf, rmStateOf, aStateOf}
+use Rattle.matching.specs.Call.{SlotUnused, SlotHolds, Sends, Stores}
+use Rattle.matching.specs.Rm as Rm
+use Rattle.matching.specs.Rm.{RMPrepare, RMChooseToAbort, RMRcvCommitMsg, RMRcvAbortMsg}
+use Rattle.matching.specs.Acceptor as Acceptor
+use Rattle.matching.specs.Acceptor.{Phase1bAction, Phase2bAction, reportOf, InSlot}
+use Rattle.matching.specs.Leader as Leader
+use Rattle.matching.specs.Leader.{Phase1aAction, Phase2aAction, CommitAction, AbortAction, proposed, NotOwned}
+
+-- W as rmState, Q as aState, N as msgs
+abbrev pub stateOf : Plan → Tables → State
+stateOf p t = record { rmState = rmStateOf (t .states); aState = aStateOf p (t .votes); msgs = setOf (messages p (t .network)) }
+
+-- the inbox of leader `who`
+abbrev pub ownInbox : Plan → Tables → List ℕ → List ℕ
+ownInbox p t e = inboxOf p (t .inboxes) (whoOf e)
+
+-- row 2: W not n bytes; Q not 3 × n × A; N not whole slots or over 1,024; I not L equal parts of whole slots or a part over 1,024
+abbrev pub WrongLengths : Plan → Tables → Type 0
+WrongLengths p t =
+    (length (t .states) ≡ p .rms → ⊥)
+    ⊎ ((length (t .votes) ≡ 3 * (p .rms * p .acceptors) → ⊥)
+    ⊎ ((isTableLength (length (t .network)) ≡ false)
+    ⊎ ((length (t .inboxes) % p .leaders ≡ 0 → ⊥)
+    ⊎ (isTableLength (inboxSize p (t .inboxes)) ≡ false))))
+
+-- row 9: the message in the slot is of no kind that the role's row names
+abbrev pub NotTaken : Plan → Tables → List ℕ → Type 0
+NotTaken p t e =
+    ((kindOf e ≡ 2) × SlotHolds p (t .network) e (λ m. Rm.isDecision m ≡ false))
+    ⊎ (((kindOf e ≡ 3) × SlotHolds p (t .network) e (λ m. Acceptor.isTaken m ≡ false))
+    ⊎ ((kindOf e ≡ 4) × SlotHolds p (t .network) e (λ m. Leader.isReceived m ≡ false)))
+
+-- row 12: the published action is not enabled; a leader's conditions are read from its own inbox
+abbrev pub Disabled : Plan → Tables → List ℕ → Type 1
+Disabled p t e =
+    Either (Rm.Disabled p e (stateOf p t))
+    (Either ((kindOf e ≡ 3) × Acceptor.Disabled p (t .network) e (stateOf p t))
+    (Leader.Disabled p (ownInbox p t e) e (stateOf p t)))
+
+-- row 13
+abbrev pub Full : Plan → Tables → List ℕ → Type 0
+Full p t e =
+    Rm.Full p (t .network) e
+    ⊎ (((kindOf e ≡ 3) × Acceptor.Full p (t .votes) (t .network) e)
+    ⊎ Leader.Full p (ownInbox p t e) (t .network) e)
+
+-- the event call: the plan, the four tables, the event, and the rows of all nine kinds
+abbrev pub recordRows : Plan → Tables → List ℕ → Rows
+recordRows p t e =
+    row 1 (isPlan p ≡ false)
+    (row 2 (WrongLengths p t)
+    (row 3 (areStates (t .states) ≡ false)
+    (row 4 (areVotes (t .votes) ≡ false)
+    (row 5 (isTable p (t .network) ≡ false)
+    (row 6 ((l : ℕ) × (l < p .leaders) × (isTable p (inboxOf p (t .inboxes) l) ≡ false))
+    (row 7 (isEvent p e ≡ false)
+    (row 8 ((2 ≤ kindOf e) × (kindOf e ≤ 4) × SlotUnused p (t .network) e)
+    (row 9 (NotTaken p t e)
+    (row 10 (NotOwned p e)
+    (row 11 ((kindOf e ≡ 2) × SlotHolds p (t .network) e (λ m. Rm.Contradicts (rmStateOf (t .states) (whoOf e)) m))
+    (guard 12 (Disabled p t e)
+    (row 13 (Full p t e)
+    (row 14 (Leader.InboxFull p (ownInbox p t e) (t .network) e)
+    end)))))))))))))
+
+-- an event call on the tables t that answers `answer` and leaves t′: the kind and who acts; the published action; the message that is sent and
+-- the slot that is answered, or quiet; and the four tables
+module _ (p : Plan) (t : Tables) (e : List ℕ) (answer : Outcome Sent) (t′ : Tables) where
+  -- N gains m, and the answer is the first slot where it stands
+  abbrev Sent-in-N : Wire.Message → Type 0
+  Sent-in-N m = Sends p (t .network) m answer (t′ .network)
+
+  -- the first of the three bytes of Q of the instance and the acceptor: mbal, bal, val
+  abbrev at : ℕ → ℕ
+  at ins = voteAt p ins (whoOf e)
+
+  -- what the leader has received
+  abbrev seen : Message → Type 0
+  seen = setOf (messages p (ownInbox p t e))
+
+  pub data Acted : Type 0 where
+    prepares : kindOf e ≡ 0 → isRM p (whoOf e) → RMPrepare p (whoOf e) (stateOf p t) (stateOf p t′) → Sent-in-N (Phase2a (whoOf e) 0 1)
+        → t′ ≡ tablesOf (set (t .states) (whoOf e) prepared) (t .votes) (t′ .network) (t .inboxes) → Acted
+    chooses-to-abort : kindOf e ≡ 1 → isRM p (whoOf e) → RMChooseToAbort p (whoOf e) (stateOf p t) (stateOf p t′)
+        → Sent-in-N (Phase2a (whoOf e) 0 2)
+        → t′ ≡ tablesOf (set (t .states) (whoOf e) aborted) (t .votes) (t′ .network) (t .inboxes) → Acted
+    receives-commit : kindOf e ≡ 2 → isRM p (whoOf e) → SlotHolds p (t .network) e (λ m. messageOf m ≡ Commit)
+        → RMRcvCommitMsg p (whoOf e) (stateOf p t) (stateOf p t′) → answer ≡ accepted Quiet
+        → t′ ≡ tablesOf (set (t .states) (whoOf e) committed) (t .votes) (t .network) (t .inboxes) → Acted
+    receives-abort : kindOf e ≡ 2 → isRM p (whoOf e) → SlotHolds p (t .network) e (λ m. messageOf m ≡ Abort)
+        → RMRcvAbortMsg p (whoOf e) (stateOf p t) (stateOf p t′) → answer ≡ accepted Quiet
+        → t′ ≡ tablesOf (set (t .states) (whoOf e) aborted) (t .votes) (t .network) (t .inboxes) → Acted
+    promises : kindOf e ≡ 3 → isAcceptor p (whoOf e) → (ins bal : ℕ) → InSlot p (t .network) e (Phase1a ins bal)
+        → Phase1bAction p (whoOf e) ins bal (stateOf p t) (stateOf p t′) → Sent-in-N (reportOf p (t .votes) (whoOf e) ins bal)
+        → t′ ≡ tablesOf (t .states) (set (t .votes) (at ins) bal) (t′ .network) (t .inboxes) → Acted
+    votes : kindOf e ≡ 3 → isAcceptor p (whoOf e) → (ins bal val : ℕ) → InSlot p (t .network) e (Phase2a ins bal val)
+        → Phase2bAction p (whoOf e) ins bal (valOf val) (stateOf p t) (stateOf p t′) → Sent-in-N (Phase2b ins (whoOf e) bal val)
+        → t′ ≡ tablesOf (t .states) (set (set (set (t .votes) (at ins) bal) (at ins + 1) bal) (at ins + 2) val) (t′ .network) (t .inboxes) → Acted
+    receives : kindOf e ≡ 4 → whoOf e < p .leaders → (m : Wire.Message) → InSlot p (t .network) e m → Leader.isReceived m ≡ true
+        → answer ≡ accepted Quiet → (inbox : List ℕ) → Stores p (ownInbox p t e) m inbox
+        → t′ ≡ tablesOf (t .states) (t .votes) (t .network) (withInbox p (t .inboxes) (whoOf e) inbox) → Acted
+    opens-ballot : kindOf e ≡ 5 → whoOf e < p .leaders → isRM p (highOf e) → owns p (whoOf e) (lowOf e) ≡ true
+        → Phase1aAction p (lowOf e) (highOf e) (stateOf p t) (stateOf p t′) → Sent-in-N (Phase1a (highOf e) (lowOf e))
+        → t′ ≡ tablesOf (t .states) (t .votes) (t′ .network) (t .inboxes) → Acted
+    proposes : kindOf e ≡ 6 → whoOf e < p .leaders → isRM p (highOf e) → owns p (whoOf e) (lowOf e) ≡ true
+        → (acts : Phase2aAction p seen (lowOf e) (highOf e) (stateOf p t) (stateOf p t′))
+        → phase2a (highOf e) (lowOf e) (acts .1 .2) ≡ messageOf (proposed p (ownInbox p t e) e) → Sent-in-N (proposed p (ownInbox p t e) e)
+        → (inbox : List ℕ) → Stores p (ownInbox p t e) (proposed p (ownInbox p t e) e) inbox
+        → t′ ≡ tablesOf (t .states) (t .votes) (t′ .network) (withInbox p (t .inboxes) (whoOf e) inbox) → Acted
+    commits : kindOf e ≡ 7 → whoOf e < p .leaders → CommitAction p seen (stateOf p t) (stateOf p t′) → Sent-in-N (Decision 1)
+        → t′ ≡ tablesOf (t .states) (t .votes) (t′ .network) (t .inboxes) → Acted
+    aborts : kindOf e ≡ 8 → whoOf e < p .leaders → AbortAction p seen (stateOf p t) (stateOf p t′) → Sent-in-N (Decision 2)
+        → t′ ≡ tablesOf (t .states) (t .votes) (t′ .network) (t .inboxes) → Acted

@@ -1,0 +1,76 @@
+-- Demand 2 on the record, for every plan, all tables and every event, and "the lowest number that applies is returned" for the event call and for
+-- opening (document 01, "Refusals by place"). `recordStep` and `recordOpen` are what the contracts of `record::step` and `record::open` name.
+--     record-answers     the answer is refused with k exactly where row k applies and none with a lower number does, and accepted exactly
+--                        where no row applies; row 12 is that the published action is not enabled, a leader's read from its own inbox
+--     record-keeps       a refused call leaves the four tables as they were
+--     record-acts        an accepted call sets what the published action sets in rmState, aState and msgs together; the sent message, the
+--                        answered slot, the one inbox and all other bytes are given
+--     record-sound       a sound record stays sound
+--     rm-agrees, acceptor-agrees, leader-agrees     a role's own call answers and leaves what the event call does
+--     open-answers, open-keeps, open-zeros          opening
+--     inboxes-of         the inboxes are the equal parts of I in order, and leader l's step changes the l-th alone
+-- Assumes nothing.
+use Prim.Native.Nat.{ℕ, zero, suc, _+_, _*_, _≤_, _<_}
+use mathlib.Core.Bool.{Bool, true, false, not}
+use mathlib.Core.List.{List, [], _++_}
+use mathlib.Core.Path.{_≡_, refl, sym, _∙_, ap}
+use lib.ListN.{length, replicate, take}
+use Rattle.message.specs.declared.Plan.{Plan}
+use Rattle.message.specs.Outcome.{Outcome, accepted, refused, refuseIf}
+use Rattle.message.specs.Rows.{Rows, end, row, Lowest}
+use Rattle.message.specs.Rows.Laws.{isAscending, lowest-of-ruled}
+use Rattle.message.specs.Plan.{isPlan}
+use Rattle.change.specs.declared.Sent.{Sent}
+use Rattle.event.specs.Event.{kindOf, whoOf}
+use Rattle.rm.specs.Rm.{rmStep}
+use Rattle.acceptor.specs.Acceptor.{acceptorStep}
+use Rattle.leader.specs.Leader.{leaderStep}
+use Rattle.record.specs.Record.{Tables, tablesOf, inboxSize, inboxOf, withInbox, recordJudged, openJudged, recordOpen, recordRefusal, onStates, onVotes, onInbox, recordStep}
+use Rattle.record.specs.Record.Parts as Parts
+use Rattle.conformance.specs.Record.{WrongLengths, recordRows, Acted}
+use Rattle.conformance.specs.Record.Ruled.{record-ruled}
+use Rattle.conformance.specs.Record.Opened as Opened
+use Rattle.conformance.specs.Record.Steps.{keeps, stays-sound}
+use Rattle.conformance.specs.Record.Acts.{acts}
+use Rattle.conformance.specs.Record.Roles.{SoundStates, SoundVotes, SoundInboxes, SoundOthers}
+use Rattle.conformance.specs.Record.Roles as Roles
+
+module _ (p : Plan) (t : Tables) (e : List ℕ) where
+  pub record-answers : Lowest (recordRows p t e) (recordStep p t e .answer)
+  unfolding isAscending
+  record-answers = lowest-of-ruled _ refl _ (record-ruled p t e)
+
+  pub record-keeps : (k : ℕ) → recordStep p t e .answer ≡ refused k → recordStep p t e ≡ recordRefusal t k
+  record-keeps = keeps p t e
+
+  pub record-acts : (sent : Sent) → recordStep p t e .answer ≡ accepted sent → Acted p t e (recordStep p t e .answer) (recordStep p t e .tables)
+  record-acts = acts p t e
+
+  pub record-sound : recordJudged p t ≡ accepted tt → recordJudged p (recordStep p t e .tables) ≡ accepted tt
+  record-sound = stays-sound p t e
+
+  -- a role's own call, where the tables that it is not lent are sound
+  pub rm-agrees : SoundVotes p t → SoundInboxes p t → kindOf e ≤ 2 → recordStep p t e ≡ onStates t (rmStep p (t .states) (t .network) e)
+  rm-agrees = Roles.rm-agrees p t e
+
+  pub acceptor-agrees : SoundStates p t → SoundInboxes p t → kindOf e ≡ 3 → recordStep p t e ≡ onVotes t (acceptorStep p (t .votes) (t .network) e)
+  acceptor-agrees = Roles.acceptor-agrees p t e
+
+  pub leader-agrees : SoundStates p t → SoundVotes p t → whoOf e < p .leaders → SoundOthers p t (whoOf e) → 3 < kindOf e
+      → recordStep p t e ≡ onInbox p (whoOf e) t (leaderStep p (inboxOf p (t .inboxes) (whoOf e)) (t .network) e)
+  leader-agrees = Roles.leader-agrees p t e
+
+module _ (p : Plan) (t : Tables) where
+  pub open-answers : Lowest (row 1 (isPlan p ≡ false) (row 2 (WrongLengths p t) end)) (recordOpen p t .answer)
+  unfolding isAscending
+  open-answers = lowest-of-ruled _ refl _ (Opened.ruled p t)
+
+  pub open-keeps : (k : ℕ) → recordOpen p t .answer ≡ refused k → recordOpen p t .tables ≡ t
+  open-keeps = Opened.keeps p t
+
+  -- every byte zero, and no length changed
+  pub open-zeros : recordOpen p t .answer ≡ accepted tt
+      → recordOpen p t .tables
+      ≡ tablesOf (replicate (length (t .states)) 0) (replicate (length (t .votes)) 0) (replicate (length (t .network)) 0)
+      (replicate (length (t .inboxes)) 0)
+  open-zeros = Opened.zeros p t

@@ -1,0 +1,1 @@
+// No code: the event call of the record and the published actions.

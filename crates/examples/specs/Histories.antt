@@ -1,0 +1,69 @@
+-- Two orders from a fresh record to their end: one weight, one acceptor, one leader, six slots in N and in the inbox. Between them every kind
+-- is accepted, so what is proved of accepted calls, and of lists of calls, is not proved of nothing.
+--     order, fresh          the plan and the fresh record
+--     committing, aborting, declining     the lists of calls
+--     orders-end            what they answer, and W afterwards
+-- Assumes nothing.
+use Prim.Native.Nat.{ℕ}
+use mathlib.Core.List.{List, [], _∷_, _++_, map}
+use mathlib.Core.Path.{_≡_, refl}
+use lib.ListN.{replicate}
+use Rattle.message.specs.declared.Plan.{Plan}
+use Rattle.message.specs.Outcome.{Outcome, accepted, refused, andThen, refuseIf}
+use Rattle.message.specs.Plan.{isPlan, isCount}
+use Rattle.message.specs.Form.{isValue, isVote, isInRange, bytesOf, bytesOf1b, messageLength, slotOf, mapLengths, mapLength, fieldsMessage, decode}
+use Rattle.message.specs.Codec.{readMessage}
+use Rattle.slots.specs.All.{all}
+use Rattle.slots.specs.Table.{isTableLength, slotsUpTo, slots, isZero, readSlot, readTable, allUnused, isOrdered, isTable, usedMessages, messages, sameBytes, storeAt}
+use Rattle.slots.specs.Send.{sameMessage, placeFrom, placeIn, messageAt}
+use Rattle.slots.specs.View.{sending}
+use Rattle.event.specs.Event.{slotNumber, whoLimit, areZero, areArguments, isEvent}
+use Rattle.change.specs.declared.Sent.{Sent}
+use Rattle.change.specs.declared.Sent.the-variants.{Slot, Quiet}
+use Rattle.rm.specs.Rm.{areStates, rmJudged, rmChoose, rmReceiveDecision, rmReceive, rmKind, rmVerdict, rmStep}
+use Rattle.acceptor.specs.Acceptor.{voteAt, isVoteState, areVotes, voteOf, phase1b, phase2b, acceptorJudged, acceptorReceive, acceptorVerdict, acceptorStep}
+use Rattle.quorum.specs.Quorum.{countAcceptors, isMajority, isQuorum}
+use Rattle.inbox.specs.Inbox.{any, is1b, is2a, is2b, higher, reportOf, highestReport, proposal, chosen, isChosen2b, decided, forAll, forSome}
+use Rattle.leader.specs.Leader.{owns, leaderJudged, receiptStore, receipt, phase1a, phase2aMessage, keepOwn, sendBoth, phase2a, sendOnly, decideSend, leaderKind, leaderVerdict, leaderStep}
+use Rattle.record.specs.Record.{Tables, tablesOf, inboxSize, inboxOf, withInbox, areLengths, areInboxes, recordJudged, roleStep, recordStep}
+use Rattle.safety.specs.Theorems.{Call, event, answers, tablesAfter}
+
+abbrev pub order : Plan
+order = record { rms = 1; acceptors = 1; leaders = 1 }
+
+abbrev pub fresh : Tables
+fresh = tablesOf (replicate 1 0) (replicate 3 0) (replicate 36 0) (replicate 36 0)
+
+abbrev pub call : ℕ → ℕ → ℕ → Call
+call kind high low = event (kind ∷ 0 ∷ high ∷ low ∷ [])
+
+-- it prepares, the acceptor votes, the leader hears of it and decides, the decision is taken; then it can no longer choose to abort
+abbrev pub committing : List Call
+committing = call 0 0 0 ∷ call 3 0 0 ∷ call 4 0 1 ∷ call 7 0 0 ∷ call 2 0 2 ∷ call 1 0 0 ∷ []
+
+-- the leader opens ballot 1, the acceptor promises, the leader proposes aborted, and it is chosen, announced and taken
+abbrev pub aborting : List Call
+aborting = call 5 0 1 ∷ call 3 0 0 ∷ call 4 0 1 ∷ call 6 0 1 ∷ call 3 0 2 ∷ call 4 0 3 ∷ call 8 0 0 ∷ call 2 0 4 ∷ []
+
+abbrev pub declining : List Call
+declining = call 1 0 0 ∷ []
+
+pub orders-end :
+    (answers order fresh committing
+    ≡ accepted (Slot 0) ∷ accepted (Slot 1) ∷ accepted Quiet ∷ accepted (Slot 2) ∷ accepted Quiet ∷ refused 12 ∷ [])
+    × (tablesAfter order fresh committing .states ≡ 2 ∷ [])
+    × (answers order fresh aborting
+    ≡ accepted (Slot 0) ∷ accepted (Slot 1) ∷ accepted Quiet ∷ accepted (Slot 2) ∷ accepted (Slot 3) ∷ accepted Quiet ∷ accepted (Slot 4)
+    ∷ accepted Quiet ∷ [])
+    × (tablesAfter order fresh aborting .states ≡ 3 ∷ [])
+    × (answers order fresh declining ≡ accepted (Slot 0) ∷ [])
+    × (tablesAfter order fresh declining .states ≡ 3 ∷ [])
+unfolding readMessage andThen refuseIf isPlan isCount isValue isVote isInRange bytesOf bytesOf1b messageLength slotOf mapLengths
+    mapLength fieldsMessage decode all isTableLength slotsUpTo slots isZero readSlot readTable allUnused isOrdered isTable usedMessages
+    messages sameBytes storeAt sameMessage placeFrom placeIn messageAt sending slotNumber whoLimit areZero areArguments isEvent
+    areStates rmJudged rmChoose rmReceiveDecision rmReceive rmKind rmVerdict rmStep voteAt
+    isVoteState areVotes acceptorJudged voteOf phase1b phase2b acceptorReceive acceptorVerdict acceptorStep countAcceptors isMajority
+    isQuorum any is1b is2a is2b higher reportOf highestReport proposal chosen isChosen2b decided forAll forSome owns leaderJudged
+    receiptStore receipt phase1a phase2aMessage keepOwn sendBoth phase2a sendOnly decideSend leaderKind leaderVerdict leaderStep
+    inboxSize inboxOf withInbox areLengths areInboxes recordJudged roleStep recordStep
+orders-end = (refl, refl, refl, refl, refl, refl)

@@ -1,0 +1,26 @@
+-- `record::step` meets its contract: what was judged, and what was then performed. Assumes nothing.
+use mathlib.Core.Path.{sym, _∙_, ap}
+use Rattle.change.specs.Change.{judgedOutcome}
+use borrow.Author.Needs.{needs}
+use Rattle.record.proofs.Stepping.{step-refused}
+use Rattle.record.proofs.step.Statement.{statement}
+use Rattle.record.proofs.step.Tie as tie
+
+pub step-spec : {M : Type 1} → statement M
+step-spec =
+    tie.close
+    (tie.spec
+    (λ c κs. tt)
+    (λ c. search needs)
+    (λ c. search needs)
+    (λ c κs. sym (c .before .before .before .before .before .before .judge .ensures) ∙ ap judgedOutcome (c .before .before .before .before .enum-told .given .1))
+    (λ c. search needs)
+    (λ c. search needs)
+    (λ c. search needs)
+    (λ c. search needs)
+    (λ c. step-refused _ _ _ _ (sym (ap judgedOutcome (c .before .judged .given .1)) ∙ c .before .before .before .judge .ensures))
+    (λ c. search needs)
+    (λ c. search needs)
+    (λ c. search needs)
+    (λ c. search needs)
+    (λ c. search needs))

@@ -1,0 +1,1 @@
+// No code: what holds after each call of every list of event calls from a fresh record.
