@@ -138,6 +138,7 @@ def is_slot_table(table):
     return len(table) % SLOT == 0 and len(table) // SLOT <= MAX_SLOTS
 
 
+@lru_cache(maxsize=65536)
 def is_readable(plan, slot):
     """A message that the reader takes, with zeros after it."""
     return any(read(plan, slot[:length])[0] == 0 and not any(slot[length:]) for length in range(1, SLOT + 1))

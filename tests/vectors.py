@@ -1,12 +1,14 @@
 #!/usr/bin/env python3
-"""The stored files of the program crates/calls: the calls that it makes, and the lines that it has to print.
+"""The stored files of the programs: what each reads, and what it has to print.
 
-    python3 tests/vectors.py write      write crates/calls/stdin and crates/calls/stdout
+    python3 tests/vectors.py write      write crates/PROGRAM/stdin and crates/PROGRAM/stdout of every program
     python3 tests/vectors.py check      say whether they are what `write` would write; exit status 1 where one is not
-    python3 tests/vectors.py list       print each line of stdout with its number and what the call is for
+    python3 tests/vectors.py list       print each line of crates/calls/stdout with its number and what the call is for, and how
+                                        often each number is answered in crates/histories
 
-tests/cases_*.py choose the calls, tests/calls.py says how they are written, and tests/model.py works out from document 01
-alone what each answers and stores. The test command needs none of this: it compares the program's output with the file.
+tests/cases_*.py choose the calls, and tests/calls.py says how they are written; tests/histories.py and tests/narration.py
+choose the histories of those two programs; the rehearsal has document 01's example. tests/model.py works out from document 01
+alone what each call answers and stores. The test command needs none of this: it compares a program's output with the file.
 """
 
 import pathlib
@@ -17,11 +19,13 @@ import cases_random
 import cases_refusals
 import cases_rules
 import cases_tables
+import histories
+import narration
 from calls import CALLS, READER, WRITER
-from model import ACCEPTOR, LEADER, RM
+from model import ACCEPTOR, LEADER, RM, rehearse
 
 CASES = [cases_messages, cases_refusals, cases_tables, cases_rules, cases_random]
-CRATE = pathlib.Path(__file__).resolve().parent.parent / "crates" / "calls"
+CRATES = pathlib.Path(__file__).resolve().parent.parent / "crates"
 
 # The numbers that each call can answer.
 NUMBERS = {
@@ -31,6 +35,10 @@ NUMBERS = {
     READER: {0, 1, 15, 16, 17},
     WRITER: {0, 1, 17},
 }
+
+# Document 01's example of the rehearsal, and what it says that it prints.
+EXAMPLE = bytes.fromhex("010101 00000000 03000000 04000001 07000000 02000002 01000000")
+PRINTED = "0\n0\n0\n0\n0\n12\nCOMMITTED\n"
 
 
 def choose():
@@ -42,13 +50,20 @@ def choose():
         got = [number for name, _, number, _, _ in CALLS if name == what]
         assert set(got) == numbers, (what, sorted(set(got)))
         assert all(got.count(number) >= 2 for number in numbers), what
+    histories.choose()
+    assert rehearse(EXAMPLE) == PRINTED
 
 
 def stored():
-    """The two files: name and contents."""
-    stdin = b"".join(text for _, _, _, text, _ in CALLS)
-    stdout = "".join(line + "\n" for _, _, _, _, line in CALLS)
-    return [("stdin", stdin), ("stdout", stdout.encode())]
+    """The files of every program: program, name, contents."""
+    yield "calls", "stdin", b"".join(text for _, _, _, text, _ in CALLS)
+    yield "calls", "stdout", "".join(line + "\n" for _, _, _, _, line in CALLS).encode()
+    yield "histories", "stdin", histories.stdin()
+    yield "histories", "stdout", histories.stdout()
+    yield "rehearsal", "stdin", EXAMPLE
+    yield "rehearsal", "stdout", PRINTED.encode()
+    yield "narration", "stdin", narration.story()
+    yield "narration", "stdout", narration.narrate(narration.story()).encode()
 
 
 def main(command):
@@ -56,14 +71,16 @@ def main(command):
     if command == "list":
         for k, (what, label, _, _, line) in enumerate(CALLS):
             print("%d %s, %s: %s" % (k + 1, what, label, line))
+        for number, count in histories.counted().items():
+            print("histories, %d: %d event calls" % (number, count))
         return 0
     differs = 0
-    for name, contents in stored():
-        path = CRATE / name
+    for program, name, contents in stored():
+        path = CRATES / program / name
         if command == "write":
             path.write_bytes(contents)
         elif not path.is_file() or path.read_bytes() != contents:
-            print("crates/calls/%s is not what tests/vectors.py writes" % name)
+            print("crates/%s/%s is not what tests/vectors.py writes" % (program, name))
             differs = 1
     return differs
 

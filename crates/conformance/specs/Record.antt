@@ -1,17 +1,22 @@
 -- What the match of the event call with module PaxosCommit speaks of. The theorems are in Theorems.antt, their proofs in Record/.
---     stateOf        the variables rmState, aState and msgs, as W, Q and N hold them
+--     recordState        the variables rmState, aState and msgs, as W, Q and N hold them
 --     ownInbox       the inbox of the event's leader
 --     recordRows     the rows of "Refusals by place" for the event call
+--     SoundStates, SoundVotes, SoundInboxes, SoundOthers     the tables that a role's own call is not lent
+--     EventForm, inboxesUpTo     row 7 and the parts of I in document 01's words
 --     Acted          what an accepted event call does: a case for each published action, and for the receipt
 -- The actions at a plan's constants, and each role's part of a row, are those of the crate matching. Assumes nothing.
 pub mod Ruled
 pub mod Opened
 pub mod Steps
 pub mod Acts
+pub mod Slots
+pub mod Inboxes
 pub mod Roles
-use Prim.Native.Nat.{ℕ, _+_, _*_, _%_, _≤_, _<_}
+pub mod Words
+use Prim.Native.Nat.{ℕ, zero, suc, _+_, _*_, _%_, _≤_, _<_}
 use mathlib.Core.Bool.{true, false}
-use mathlib.Core.List.{List}
+use mathlib.Core.List.{List, [], _++_}
 use mathlib.Core.Logic.{_⊎_}
 use mathlib.Core.Path.{_≡_}
 use lib.ListN.{length, set}
@@ -26,7 +31,7 @@ use Rattle.change.specs.declared.Sent.{Sent}
 use Rattle.change.specs.declared.Sent.the-variants.{Quiet}
 use Rattle.event.specs.Event.{kindOf, whoOf, highOf, lowOf, isEvent}
 use Rattle.tcommit.specs.RmState.{prepared, committed, aborted}
-use Rattle.paxos_commit.specs.PaxosCommit.{State, Message, phase2a, Commit, Abort}
+use Rattle.paxos_commit.specs.PaxosCommit.{State, Val, Message, phase2a, Commit, Abort}
 use Rattle.rm.specs.Rm.{areStates}
 use Rattle.acceptor.specs.Acceptor.{voteAt, areVotes}
 use Rattle.leader.specs.Leader.{owns}
@@ -41,8 +46,8 @@ use Rattle.matching.specs.Leader as Leader
 use Rattle.matching.specs.Leader.{Phase1aAction, Phase2aAction, CommitAction, AbortAction, proposed, NotOwned}
 
 -- W as rmState, Q as aState, N as msgs
-abbrev pub stateOf : Plan → Tables → State
-stateOf p t = record { rmState = rmStateOf (t .states); aState = aStateOf p (t .votes); msgs = setOf (messages p (t .network)) }
+abbrev pub recordState : Plan → Tables → State
+recordState p t = record { rmState = rmStateOf (t .states); aState = aStateOf p (t .votes); msgs = setOf (messages p (t .network)) }
 
 -- the inbox of leader `who`
 abbrev pub ownInbox : Plan → Tables → List ℕ → List ℕ
@@ -67,9 +72,9 @@ NotTaken p t e =
 -- row 12: the published action is not enabled; a leader's conditions are read from its own inbox
 abbrev pub Disabled : Plan → Tables → List ℕ → Type 1
 Disabled p t e =
-    Either (Rm.Disabled p e (stateOf p t))
-    (Either ((kindOf e ≡ 3) × Acceptor.Disabled p (t .network) e (stateOf p t))
-    (Leader.Disabled p (ownInbox p t e) e (stateOf p t)))
+    Either (Rm.Disabled p e (recordState p t))
+    (Either ((kindOf e ≡ 3) × Acceptor.Disabled p (t .network) e (recordState p t))
+    (Leader.Disabled p (ownInbox p t e) e (recordState p t)))
 
 -- row 13
 abbrev pub Full : Plan → Tables → List ℕ → Type 0
@@ -97,6 +102,41 @@ recordRows p t e =
     (row 14 (Leader.InboxFull p (ownInbox p t e) (t .network) e)
     end)))))))))))))
 
+-- row 7: who is a resource manager, an acceptor or a leader; kinds 0, 1, 7 and 8 have zeros, 5 and 6 an instance and any ballot
+abbrev pub EventForm : Plan → ℕ → ℕ → ℕ → ℕ → Type 0
+EventForm p kind who high low =
+    ((kind ≤ 1) × (who < p .rms) × (high ≡ 0) × (low ≡ 0))
+    ⊎ (((kind ≡ 2) × (who < p .rms))
+    ⊎ (((kind ≡ 3) × (who < p .acceptors))
+    ⊎ (((kind ≡ 4) × (who < p .leaders))
+    ⊎ (((4 < kind) × (kind ≤ 6) × (who < p .leaders) × (high < p .rms))
+    ⊎ ((6 < kind) × (kind ≤ 8) × (who < p .leaders) × (high ≡ 0) × (low ≡ 0))))))
+
+-- the first so many inboxes, one after the other
+unfoldable pub inboxesUpTo : Plan → List ℕ → ℕ → List ℕ
+inboxesUpTo p inboxes zero = []
+inboxesUpTo p inboxes (suc l) = inboxesUpTo p inboxes l ++ inboxOf p inboxes l
+
+-- W is as rows 2 and 3 ask
+abbrev pub SoundStates : Plan → Tables → Type 0
+SoundStates p t = (length (t .states) ≡ p .rms) × (areStates (t .states) ≡ true)
+
+-- Q is as rows 2 and 4 ask
+abbrev pub SoundVotes : Plan → Tables → Type 0
+SoundVotes p t = (length (t .votes) ≡ 3 * (p .rms * p .acceptors)) × (areVotes (t .votes) ≡ true)
+
+-- I is as rows 2 and 6 ask
+abbrev pub SoundInboxes : Plan → Tables → Type 0
+SoundInboxes p t =
+    (length (t .inboxes) % p .leaders ≡ 0)
+    × (isTableLength (inboxSize p (t .inboxes)) ≡ true)
+    × ((l : ℕ) → l < p .leaders → isTable p (inboxOf p (t .inboxes) l) ≡ true)
+
+-- I is L equal parts, and the inboxes of the other leaders are tables
+abbrev pub SoundOthers : Plan → Tables → ℕ → Type 0
+SoundOthers p t l =
+    (length (t .inboxes) % p .leaders ≡ 0) × ((k : ℕ) → k < p .leaders → (k ≡ l → ⊥) → isTable p (inboxOf p (t .inboxes) k) ≡ true)
+
 -- an event call on the tables t that answers `answer` and leaves t′: the kind and who acts; the published action; the message that is sent and
 -- the slot that is answered, or quiet; and the four tables
 module _ (p : Plan) (t : Tables) (e : List ℕ) (answer : Outcome Sent) (t′ : Tables) where
@@ -112,36 +152,40 @@ module _ (p : Plan) (t : Tables) (e : List ℕ) (answer : Outcome Sent) (t′ : 
   abbrev seen : Message → Type 0
   seen = setOf (messages p (ownInbox p t e))
 
+  -- the value that Phase2a proposes
+  abbrev valueOf : Phase2aAction p seen (lowOf e) (highOf e) (recordState p t) (recordState p t′) → Val
+  valueOf acts = acts .1 .2
+
   pub data Acted : Type 0 where
-    prepares : kindOf e ≡ 0 → isRM p (whoOf e) → RMPrepare p (whoOf e) (stateOf p t) (stateOf p t′) → Sent-in-N (Phase2a (whoOf e) 0 1)
+    prepares : kindOf e ≡ 0 → isRM p (whoOf e) → RMPrepare p (whoOf e) (recordState p t) (recordState p t′) → Sent-in-N (Phase2a (whoOf e) 0 1)
         → t′ ≡ tablesOf (set (t .states) (whoOf e) prepared) (t .votes) (t′ .network) (t .inboxes) → Acted
-    chooses-to-abort : kindOf e ≡ 1 → isRM p (whoOf e) → RMChooseToAbort p (whoOf e) (stateOf p t) (stateOf p t′)
+    chooses-to-abort : kindOf e ≡ 1 → isRM p (whoOf e) → RMChooseToAbort p (whoOf e) (recordState p t) (recordState p t′)
         → Sent-in-N (Phase2a (whoOf e) 0 2)
         → t′ ≡ tablesOf (set (t .states) (whoOf e) aborted) (t .votes) (t′ .network) (t .inboxes) → Acted
     receives-commit : kindOf e ≡ 2 → isRM p (whoOf e) → SlotHolds p (t .network) e (λ m. messageOf m ≡ Commit)
-        → RMRcvCommitMsg p (whoOf e) (stateOf p t) (stateOf p t′) → answer ≡ accepted Quiet
+        → RMRcvCommitMsg p (whoOf e) (recordState p t) (recordState p t′) → answer ≡ accepted Quiet
         → t′ ≡ tablesOf (set (t .states) (whoOf e) committed) (t .votes) (t .network) (t .inboxes) → Acted
     receives-abort : kindOf e ≡ 2 → isRM p (whoOf e) → SlotHolds p (t .network) e (λ m. messageOf m ≡ Abort)
-        → RMRcvAbortMsg p (whoOf e) (stateOf p t) (stateOf p t′) → answer ≡ accepted Quiet
+        → RMRcvAbortMsg p (whoOf e) (recordState p t) (recordState p t′) → answer ≡ accepted Quiet
         → t′ ≡ tablesOf (set (t .states) (whoOf e) aborted) (t .votes) (t .network) (t .inboxes) → Acted
     promises : kindOf e ≡ 3 → isAcceptor p (whoOf e) → (ins bal : ℕ) → InSlot p (t .network) e (Phase1a ins bal)
-        → Phase1bAction p (whoOf e) ins bal (stateOf p t) (stateOf p t′) → Sent-in-N (reportOf p (t .votes) (whoOf e) ins bal)
+        → Phase1bAction p (whoOf e) ins bal (recordState p t) (recordState p t′) → Sent-in-N (reportOf p (t .votes) (whoOf e) ins bal)
         → t′ ≡ tablesOf (t .states) (set (t .votes) (at ins) bal) (t′ .network) (t .inboxes) → Acted
     votes : kindOf e ≡ 3 → isAcceptor p (whoOf e) → (ins bal val : ℕ) → InSlot p (t .network) e (Phase2a ins bal val)
-        → Phase2bAction p (whoOf e) ins bal (valOf val) (stateOf p t) (stateOf p t′) → Sent-in-N (Phase2b ins (whoOf e) bal val)
+        → Phase2bAction p (whoOf e) ins bal (valOf val) (recordState p t) (recordState p t′) → Sent-in-N (Phase2b ins (whoOf e) bal val)
         → t′ ≡ tablesOf (t .states) (set (set (set (t .votes) (at ins) bal) (at ins + 1) bal) (at ins + 2) val) (t′ .network) (t .inboxes) → Acted
     receives : kindOf e ≡ 4 → whoOf e < p .leaders → (m : Wire.Message) → InSlot p (t .network) e m → Leader.isReceived m ≡ true
         → answer ≡ accepted Quiet → (inbox : List ℕ) → Stores p (ownInbox p t e) m inbox
         → t′ ≡ tablesOf (t .states) (t .votes) (t .network) (withInbox p (t .inboxes) (whoOf e) inbox) → Acted
     opens-ballot : kindOf e ≡ 5 → whoOf e < p .leaders → isRM p (highOf e) → owns p (whoOf e) (lowOf e) ≡ true
-        → Phase1aAction p (lowOf e) (highOf e) (stateOf p t) (stateOf p t′) → Sent-in-N (Phase1a (highOf e) (lowOf e))
+        → Phase1aAction p (lowOf e) (highOf e) (recordState p t) (recordState p t′) → Sent-in-N (Phase1a (highOf e) (lowOf e))
         → t′ ≡ tablesOf (t .states) (t .votes) (t′ .network) (t .inboxes) → Acted
     proposes : kindOf e ≡ 6 → whoOf e < p .leaders → isRM p (highOf e) → owns p (whoOf e) (lowOf e) ≡ true
-        → (acts : Phase2aAction p seen (lowOf e) (highOf e) (stateOf p t) (stateOf p t′))
-        → phase2a (highOf e) (lowOf e) (acts .1 .2) ≡ messageOf (proposed p (ownInbox p t e) e) → Sent-in-N (proposed p (ownInbox p t e) e)
+        → (acts : Phase2aAction p seen (lowOf e) (highOf e) (recordState p t) (recordState p t′))
+        → phase2a (highOf e) (lowOf e) (valueOf acts) ≡ messageOf (proposed p (ownInbox p t e) e) → Sent-in-N (proposed p (ownInbox p t e) e)
         → (inbox : List ℕ) → Stores p (ownInbox p t e) (proposed p (ownInbox p t e) e) inbox
         → t′ ≡ tablesOf (t .states) (t .votes) (t′ .network) (withInbox p (t .inboxes) (whoOf e) inbox) → Acted
-    commits : kindOf e ≡ 7 → whoOf e < p .leaders → CommitAction p seen (stateOf p t) (stateOf p t′) → Sent-in-N (Decision 1)
+    commits : kindOf e ≡ 7 → whoOf e < p .leaders → CommitAction p seen (recordState p t) (recordState p t′) → Sent-in-N (Decision 1)
         → t′ ≡ tablesOf (t .states) (t .votes) (t′ .network) (t .inboxes) → Acted
-    aborts : kindOf e ≡ 8 → whoOf e < p .leaders → AbortAction p seen (stateOf p t) (stateOf p t′) → Sent-in-N (Decision 2)
+    aborts : kindOf e ≡ 8 → whoOf e < p .leaders → AbortAction p seen (recordState p t) (recordState p t′) → Sent-in-N (Decision 2)
         → t′ ≡ tablesOf (t .states) (t .votes) (t′ .network) (t .inboxes) → Acted

@@ -5,34 +5,38 @@
 --     record-keeps       a refused call leaves the four tables as they were
 --     record-acts        an accepted call sets what the published action sets in rmState, aState and msgs together; the sent message, the
 --                        answered slot, the one inbox and all other bytes are given
+--     record-slot        an answered slot is one of N's, below 1,024
+--     record-inboxes     an event call changes no inbox but that of its own leader
 --     record-sound       a sound record stays sound
---     rm-agrees, acceptor-agrees, leader-agrees     a role's own call answers and leaves what the event call does
+--     rm-agrees, acceptor-agrees, leader-agrees     a role's own call answers and leaves what the event call does; no-event, sound-tables
 --     open-answers, open-keeps, open-zeros          opening
---     inboxes-of         the inboxes are the equal parts of I in order, and leader l's step changes the l-th alone
 -- Assumes nothing.
-use Prim.Native.Nat.{ℕ, zero, suc, _+_, _*_, _≤_, _<_}
-use mathlib.Core.Bool.{Bool, true, false, not}
-use mathlib.Core.List.{List, [], _++_}
-use mathlib.Core.Path.{_≡_, refl, sym, _∙_, ap}
-use lib.ListN.{length, replicate, take}
+use Prim.Native.Nat.{ℕ, _≤_, _<_}
+use mathlib.Core.Bool.{false}
+use mathlib.Core.List.{List}
+use mathlib.Core.Logic.{_⊎_}
+use mathlib.Core.Path.{_≡_, refl}
+use lib.ListN.{length, replicate}
 use Rattle.message.specs.declared.Plan.{Plan}
-use Rattle.message.specs.Outcome.{Outcome, accepted, refused, refuseIf}
-use Rattle.message.specs.Rows.{Rows, end, row, Lowest}
+use Rattle.message.specs.Outcome.{accepted, refused}
+use Rattle.message.specs.Rows.{end, row, Lowest}
 use Rattle.message.specs.Rows.Laws.{isAscending, lowest-of-ruled}
 use Rattle.message.specs.Plan.{isPlan}
 use Rattle.change.specs.declared.Sent.{Sent}
-use Rattle.event.specs.Event.{kindOf, whoOf}
-use Rattle.rm.specs.Rm.{rmStep}
-use Rattle.acceptor.specs.Acceptor.{acceptorStep}
-use Rattle.leader.specs.Leader.{leaderStep}
-use Rattle.record.specs.Record.{Tables, tablesOf, inboxSize, inboxOf, withInbox, recordJudged, openJudged, recordOpen, recordRefusal, onStates, onVotes, onInbox, recordStep}
-use Rattle.record.specs.Record.Parts as Parts
-use Rattle.conformance.specs.Record.{WrongLengths, recordRows, Acted}
+use Rattle.change.specs.declared.Sent.the-variants.{Slot}
+use Rattle.event.specs.Event.{kindOf, whoOf, isEvent}
+use Rattle.rm.specs.Rm.{rmJudged, rmStep}
+use Rattle.acceptor.specs.Acceptor.{acceptorJudged, acceptorStep}
+use Rattle.leader.specs.Leader.{leaderJudged, leaderStep}
+use Rattle.record.specs.Record.{Tables, tablesOf, inboxOf, recordJudged, recordOpen, recordRefusal, onStates, onVotes, onInbox, recordStep}
+use Rattle.conformance.specs.Record.{WrongLengths, recordRows, SoundStates, SoundVotes, SoundInboxes, SoundOthers, Acted}
 use Rattle.conformance.specs.Record.Ruled.{record-ruled}
 use Rattle.conformance.specs.Record.Opened as Opened
 use Rattle.conformance.specs.Record.Steps.{keeps, stays-sound}
+use Rattle.matching.specs.Call.{roomOf}
 use Rattle.conformance.specs.Record.Acts.{acts}
-use Rattle.conformance.specs.Record.Roles.{SoundStates, SoundVotes, SoundInboxes, SoundOthers}
+use Rattle.conformance.specs.Record.Slots.{slot-below}
+use Rattle.conformance.specs.Record.Inboxes.{inbox-kept, no-event-record, no-event-rm, no-event-acceptor, no-event-leader}
 use Rattle.conformance.specs.Record.Roles as Roles
 
 module _ (p : Plan) (t : Tables) (e : List ℕ) where
@@ -45,6 +49,14 @@ module _ (p : Plan) (t : Tables) (e : List ℕ) where
 
   pub record-acts : (sent : Sent) → recordStep p t e .answer ≡ accepted sent → Acted p t e (recordStep p t e .answer) (recordStep p t e .tables)
   record-acts = acts p t e
+
+  pub record-slot : (s : ℕ) → recordStep p t e .answer ≡ accepted (Slot s)
+      → (s < roomOf (recordStep p t e .tables .network)) × (s < 1024)
+  record-slot = slot-below p t e
+
+  pub record-inboxes : (l : ℕ) → l < p .leaders → (kindOf e ≤ 3) ⊎ (l ≡ whoOf e → ⊥)
+      → inboxOf p (recordStep p t e .tables .inboxes) l ≡ inboxOf p (t .inboxes) l
+  record-inboxes = inbox-kept p t e
 
   pub record-sound : recordJudged p t ≡ accepted tt → recordJudged p (recordStep p t e .tables) ≡ accepted tt
   record-sound = stays-sound p t e
@@ -59,6 +71,19 @@ module _ (p : Plan) (t : Tables) (e : List ℕ) where
   pub leader-agrees : SoundStates p t → SoundVotes p t → whoOf e < p .leaders → SoundOthers p t (whoOf e) → 3 < kindOf e
       → recordStep p t e ≡ onInbox p (whoOf e) t (leaderStep p (inboxOf p (t .inboxes) (whoOf e)) (t .network) e)
   leader-agrees = Roles.leader-agrees p t e
+
+-- what is no event is refused with 7 by every call on sound tables
+pub no-event : (p : Plan) (e : List ℕ) → isEvent p e ≡ false
+    → ((t : Tables) → recordJudged p t ≡ accepted tt → recordStep p t e .answer ≡ refused 7)
+    × ((states network : List ℕ) → rmJudged p states network ≡ accepted tt → rmStep p states network e .answer ≡ refused 7)
+    × ((votes network : List ℕ) → acceptorJudged p votes network ≡ accepted tt → acceptorStep p votes network e .answer ≡ refused 7)
+    × ((inbox network : List ℕ) → leaderJudged p inbox network ≡ accepted tt → leaderStep p inbox network e .answer ≡ refused 7)
+no-event p e none = (no-event-record p e none, no-event-rm p e none, no-event-acceptor p e none, no-event-leader p e none)
+
+-- on a sound record the tables that a role is not lent are sound
+pub sound-tables : (p : Plan) (t : Tables) → recordJudged p t ≡ accepted tt
+    → SoundStates p t × SoundVotes p t × SoundInboxes p t × ((l : ℕ) → SoundOthers p t l)
+sound-tables = Roles.sound-tables
 
 module _ (p : Plan) (t : Tables) where
   pub open-answers : Lowest (row 1 (isPlan p ≡ false) (row 2 (WrongLengths p t) end)) (recordOpen p t .answer)

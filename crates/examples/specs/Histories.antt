@@ -1,15 +1,15 @@
--- Two orders from a fresh record to their end: one weight, one acceptor, one leader, six slots in N and in the inbox. Between them every kind
--- is accepted, so what is proved of accepted calls, and of lists of calls, is not proved of nothing.
+-- Three short lists of calls from a fresh record: one weight, one acceptor, one leader, six slots in N and in the inbox. Between them every
+-- kind is accepted, and an order ends committed or aborted, so what is proved of accepted calls and of lists of calls is not proved of nothing.
 --     order, fresh          the plan and the fresh record
 --     committing, aborting, declining     the lists of calls
 --     orders-end            what they answer, and W afterwards
 -- Assumes nothing.
 use Prim.Native.Nat.{ℕ}
-use mathlib.Core.List.{List, [], _∷_, _++_, map}
+use mathlib.Core.List.{List, [], _∷_}
 use mathlib.Core.Path.{_≡_, refl}
 use lib.ListN.{replicate}
 use Rattle.message.specs.declared.Plan.{Plan}
-use Rattle.message.specs.Outcome.{Outcome, accepted, refused, andThen, refuseIf}
+use Rattle.message.specs.Outcome.{accepted, refused, andThen, refuseIf}
 use Rattle.message.specs.Plan.{isPlan, isCount}
 use Rattle.message.specs.Form.{isValue, isVote, isInRange, bytesOf, bytesOf1b, messageLength, slotOf, mapLengths, mapLength, fieldsMessage, decode}
 use Rattle.message.specs.Codec.{readMessage}
@@ -18,7 +18,6 @@ use Rattle.slots.specs.Table.{isTableLength, slotsUpTo, slots, isZero, readSlot
 use Rattle.slots.specs.Send.{sameMessage, placeFrom, placeIn, messageAt}
 use Rattle.slots.specs.View.{sending}
 use Rattle.event.specs.Event.{slotNumber, whoLimit, areZero, areArguments, isEvent}
-use Rattle.change.specs.declared.Sent.{Sent}
 use Rattle.change.specs.declared.Sent.the-variants.{Slot, Quiet}
 use Rattle.rm.specs.Rm.{areStates, rmJudged, rmChoose, rmReceiveDecision, rmReceive, rmKind, rmVerdict, rmStep}
 use Rattle.acceptor.specs.Acceptor.{voteAt, isVoteState, areVotes, voteOf, phase1b, phase2b, acceptorJudged, acceptorReceive, acceptorVerdict, acceptorStep}
@@ -37,7 +36,7 @@ fresh = tablesOf (replicate 1 0) (replicate 3 0) (replicate 36 0) (replicate 36 
 abbrev pub call : ℕ → ℕ → ℕ → Call
 call kind high low = event (kind ∷ 0 ∷ high ∷ low ∷ [])
 
--- it prepares, the acceptor votes, the leader hears of it and decides, the decision is taken; then it can no longer choose to abort
+-- document 01's rehearsal: it prepares, the acceptor votes, the leader hears of it and decides, the decision is taken; then it can no longer choose to abort
 abbrev pub committing : List Call
 committing = call 0 0 0 ∷ call 3 0 0 ∷ call 4 0 1 ∷ call 7 0 0 ∷ call 2 0 2 ∷ call 1 0 0 ∷ []
 

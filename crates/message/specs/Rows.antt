@@ -1,5 +1,6 @@
 -- The rows of "Refusals by place" for a call, and document 01's sentence "The lowest number that applies is returned".
---     Rows, row        the rows of a call in order, each with its number and when it applies; `guard` where that speaks of published states
+--     Rows, row        the rows of a call in order, each with its number and when it applies; `guard` where that speaks of published states:
+--                      row 12, which applies where the action is not enabled (that an accepted call is the action is said beside it)
 --     Applies          some row with this number applies
 --     Lowest           the answer is refused with k exactly where row k applies and none with a lower number does, and accepted exactly
 --                      where no row applies

@@ -1,14 +1,13 @@
 -- The order record: four tables, opening it, and the event call of all nine kinds (document 01, "The plan and four tables" and "Refusals by
 -- place").
---     Tables                             W, Q, N and I
+--     Tables, tablesOf                   W, Q, N and I
 --     inboxSize, inboxOf, withInbox      leader l's inbox is the l-th equal part of I
---     areLengths                         row 2
---     areInboxes                         row 6
---     recordJudged                       rows 1 to 6: the plan and the four tables, whatever the event
---     Opening, recordOpen                opening a record: every byte zero
---     RecordStep, recordRefusal          what an event call answers and leaves; a refusal changes no byte
+--     areLengths, areInboxes             rows 2 and 6
+--     openJudged, recordJudged           rows 1 and 2; rows 1 to 6: the plan and the four tables, whatever the event
+--     zeroed, Opening, openingOf, opened, recordOpen     opening a record: every byte zero
+--     RecordStep, recordStepOf, recordRefusal            what an event call answers and leaves; a refusal changes no byte
 --     onStates, onVotes, onInbox         a role's own step as a step of the record
---     roleStep, recordStep               the event call: the record is judged, then the role of the event's kind takes its step
+--     roleStep, settled, recordStep      the event call: the record and the event are judged, then the role of the event's kind takes its step
 -- Its laws are in Record/. Assumes nothing.
 pub mod Laws
 pub mod Parts
@@ -38,6 +37,7 @@ pub record Tables : Type 0 where
   pub network : List ℕ
   pub inboxes : List ℕ
 
+-- the record of four tables
 abbrev pub tablesOf : List ℕ → List ℕ → List ℕ → List ℕ → Tables
 tablesOf states votes network inboxes = record { states = states; votes = votes; network = network; inboxes = inboxes }
 
@@ -92,6 +92,7 @@ pub record Opening : Type 0 where
   pub answer : Outcome (Unit {0})
   pub tables : Tables
 
+-- the answer's enum and the four tables at exit
 abbrev pub openingOf : Judged → Tables → Opening
 openingOf judged t = record { answer = judgedOutcome judged; tables = t }
 
@@ -129,13 +130,14 @@ onVotes t s = record { answer = s .answer; tables = tablesOf (t .states) (s .tab
 abbrev pub onInbox : Plan → ℕ → Tables → Step → RecordStep
 onInbox p l t s = record { answer = s .answer; tables = tablesOf (t .states) (t .votes) (s .network) (withInbox p (t .inboxes) l (s .table)) }
 
--- kinds 0 to 2 are a resource manager's, 3 an acceptor's, 4 to 8 a leader's
+-- kinds 0 to 2 are a resource manager's, 3 an acceptor's, 4 to 8 a leader's; a role's step judges its own tables again, to no effect
 unfoldable pub roleStep : Plan → Tables → List ℕ → RecordStep
 roleStep p t e =
     cond (leb (kindOf e) 2) (onStates t (rmStep p (t .states) (t .network) e))
     (cond (eqb (kindOf e) 3) (onVotes t (acceptorStep p (t .votes) (t .network) e))
     (onInbox p (whoOf e) t (leaderStep p (inboxOf p (t .inboxes) (whoOf e)) (t .network) e)))
 
+-- the step that was accepted, or the refusal
 abbrev pub settled : Tables → Outcome RecordStep → RecordStep
 settled t (accepted s) = s
 settled t (refused number) = recordRefusal t number

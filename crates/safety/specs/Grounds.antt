@@ -25,7 +25,7 @@ use Rattle.leader.specs.Leader.{owns}
 use Rattle.record.specs.Record.{Tables, inboxOf}
 use Rattle.record.specs.Record.Laws.{Sound}
 use Rattle.matching.specs.Reading.{isRM, isAcceptor, isMajoritySet, setOf}
-use Rattle.conformance.specs.Record.{stateOf}
+use Rattle.conformance.specs.Record.{recordState}
 
 -- the messages in N, and in leader l's inbox, as sets
 abbrev pub sentIn : Plan → Tables → Message → Type 0
@@ -35,7 +35,7 @@ abbrev pub seenBy : Plan → Tables → ℕ → Message → Type 0
 seenBy p t l = setOf (messages p (inboxOf p (t .inboxes) l))
 
 abbrev pub InvOf : Plan → Tables → Type 0
-InvOf p t = Inv (isRM p) (isAcceptor p) (isMajoritySet p) (stateOf p t)
+InvOf p t = Inv (isRM p) (isAcceptor p) (isMajoritySet p) (recordState p t)
 
 pub record Grounded (p : Plan) (t : Tables) : Type 0 where
   -- rows 1 to 6 do not apply

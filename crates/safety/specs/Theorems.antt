@@ -6,7 +6,10 @@
 --     answers, tablesAfter     what the calls of a list answer, and the tables that they leave
 --     demand-3, never-11       after each call the three claims hold; so no answer of the list is 11
 --     network-kept             what stands in a slot of N stays there
---     opening-fresh, opening-lengths, opening-refused     opening makes a fresh record of the same lengths, or leaves the tables as they were
+--     opening-fresh, opening-lengths     opening makes a fresh record of the same lengths (a refused one leaves the tables: open-keeps in the crate
+--                              conformance)
+--     demand-3-opened          demand 3 from opening on
+--     fresh-initial            a fresh record reads as PCInit of module PaxosCommit
 -- Why they hold: Grounds.antt. Assumes nothing.
 use Prim.Native.Nat.{ℕ}
 use mathlib.Core.List.{List, [], _∷_, _++_, List·Memᴰ, List·Memᴰ·head, List·Memᴰ·tail, List·Memᴰ·not-nil}
@@ -22,9 +25,12 @@ use Rattle.change.specs.declared.Sent.{Sent}
 use Rattle.tcommit.specs.RmState.{committed, aborted}
 use Rattle.tcommit.specs.TCommit.{TCNext}
 use Rattle.record.specs.Record.{Tables, zeroed, RecordStep, recordStep, recordOpen}
-use Rattle.matching.specs.Reading.{isRM, rmStateOf}
-use Rattle.conformance.specs.Theorems.{open-keeps, open-zeros}
+use Rattle.paxos_commit.specs.PaxosCommit.{PCInit}
+use Rattle.matching.specs.Reading.{isRM, isAcceptor, isMajoritySet, rmStateOf}
+use Rattle.conformance.specs.Record.{recordState}
+use Rattle.conformance.specs.Theorems.{open-zeros}
 use Rattle.safety.specs.Grounds.Zeros.{zeros-zeroed}
+use Rattle.safety.specs.Grounds.Opened.{initial-zeros}
 use Rattle.safety.specs.Grounds.Steps.{Used, used-zeros, used-event, path-event, agreed-used, not-contradicted-event, length-event, slot-event}
 
 -- a fresh record: zeros, of any lengths
@@ -35,7 +41,7 @@ Fresh t =
     × (t .network ≡ zeroed (t .network))
     × (t .inboxes ≡ zeroed (t .inboxes))
 
--- one call of a list
+-- one call of a list; today a list holds event calls alone
 pub data Call : Type 0 where
   -- an event call; the event is any bytes
   event : List ℕ → Call
@@ -70,7 +76,7 @@ abbrev pub tablesAfter : Plan → Tables → List Call → Tables
 tablesAfter p t [] = t
 tablesAfter p t (c ∷ cs) = tablesAfter p (made p t c .tables) cs
 
--- one call, by its kind, on a record that was opened and used
+-- one call, by its case of `Call`, on a record that was opened and used
 module _ (p : Plan) (t : Tables) where
   used-made : (c : Call) → Used p t → Used p (made p t c .tables)
   used-made (event e) = used-event p t e
@@ -127,5 +133,10 @@ module _ (p : Plan) (t : Tables) where
       × (length (recordOpen p t .tables .inboxes) ≡ length (t .inboxes))
   opening-lengths is = rw (open-zeros p t is) (length-replicate _ 0, length-replicate _ 0, length-replicate _ 0, length-replicate _ 0)
 
-  pub opening-refused : (k : ℕ) → recordOpen p t .answer ≡ refused k → recordOpen p t .tables ≡ t
-  opening-refused = open-keeps p t
+  -- so demand 3 holds from opening on, whatever the tables held before it
+  pub demand-3-opened : recordOpen p t .answer ≡ accepted tt → (calls : List Call) → AfterEach p (Safe p) (recordOpen p t .tables) calls
+  demand-3-opened is = demand-3 p (recordOpen p t .tables) (opening-fresh is)
+
+  -- and a fresh record reads as the initial state of module PaxosCommit
+  pub fresh-initial : Fresh t → PCInit (isRM p) (isAcceptor p) (isMajoritySet p) (recordState p t)
+  fresh-initial (w, q, n, i) = initial-zeros p t w q n

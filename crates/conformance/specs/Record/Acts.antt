@@ -3,17 +3,17 @@
 --     acts                                    for every accepted call
 -- Assumes nothing.
 use Prim.Native.Nat.{ℕ, _≤_, _<_}
-use mathlib.Core.Bool.{Bool, true, false}
+use mathlib.Core.Bool.{true}
 use mathlib.Core.List.{List}
 use mathlib.Core.Logic.{_⊎_, inl, inr}
-use mathlib.Core.Path.{_≡_, refl, sym, _∙_, ap, ap₂, subst}
+use mathlib.Core.Path.{_≡_, refl, sym, _∙_, ap, ap₂}
 use native.Mathlib.Decide.{ℕ-discrete}
 use native.Mathlib.Omega.{arith}
 use borrow.Author.Tests.{not-false}
 use Rattle.message.specs.declared.Plan.{Plan}
 use Rattle.message.specs.declared.Message as Wire
 use Rattle.message.specs.declared.Message.the-variants.{Phase1a, Phase1b, Phase2a, Phase2b, Decision}
-use Rattle.message.specs.Outcome.{Outcome, accepted, refused, andThen}
+use Rattle.message.specs.Outcome.{accepted, andThen}
 use Rattle.message.specs.Outcome.Laws.{accepted-not-refused, refuseIf-accepted}
 use Rattle.slots.specs.Table.{messages}
 use Rattle.slots.specs.Send.{messageAt}
@@ -24,9 +24,8 @@ use Rattle.event.specs.Event.{kindOf, whoOf, highOf, lowOf, slotNumber, isEvent
 use Rattle.event.specs.Event.Laws.{event-parts, rm-who, acceptor-who, leader-who, event-instance}
 use Rattle.tcommit.specs.RmState.{committed, aborted}
 use Rattle.paxos_commit.specs.PaxosCommit.{AState, Commit, Abort}
-use Rattle.rm.specs.Rm.{rmStep}
-use Rattle.acceptor.specs.Acceptor.{acceptorReceive, acceptorStep}
-use Rattle.leader.specs.Leader.{owns, receipt, phase1a, phase2aMessage, sendBoth, phase2a, leaderKind, leaderStep}
+use Rattle.acceptor.specs.Acceptor.{acceptorReceive}
+use Rattle.leader.specs.Leader.{owns, receipt, phase1a, phase2aMessage, sendBoth, phase2a, leaderKind}
 use Rattle.record.specs.Record.{Tables, tablesOf, withInbox, RecordStep, onStates, onVotes, onInbox, recordStep}
 use Rattle.record.specs.Record.Parts.{with-inboxOf}
 use Rattle.message.specs.Plan.Laws.{plan-bounds}
@@ -40,7 +39,7 @@ use Rattle.matching.specs.Leader.{isReceived}
 use Rattle.matching.specs.Leader.Took as LeaderTook
 use Rattle.matching.specs.Leader.Laws as Leader
 use Rattle.matching.specs.Theorems as Match
-use Rattle.conformance.specs.Record.{stateOf, ownInbox, Acted, prepares, chooses-to-abort, receives-commit, receives-abort, promises, votes}
+use Rattle.conformance.specs.Record.{ownInbox, Acted, prepares, chooses-to-abort, receives-commit, receives-abort, promises, votes}
 use Rattle.conformance.specs.Record.{receives, opens-ballot, proposes, commits, aborts}
 use Rattle.conformance.specs.Record.Steps.{Role, rm, acceptor, leader, roleOf, rmPart, acceptorPart, leaderPart}
 use Rattle.conformance.specs.Record.Steps.{role-rm, role-acceptor, role-leader, Taken, taken}

@@ -2,14 +2,14 @@
 --     ruled, keeps, zeros     it answers the first of its two rows that applies; refused it leaves the tables, accepted it zeroes them
 -- Assumes nothing.
 use Prim.Native.Nat.{ℕ}
-use mathlib.Core.Bool.{Bool, true, false, not}
+use mathlib.Core.Bool.{false, not}
 use mathlib.Core.Path.{_≡_, refl}
 use lib.ListN.{length, replicate}
 use Rattle.message.specs.declared.Plan.{Plan}
-use Rattle.message.specs.Outcome.{Outcome, accepted, refused, refuseIf}
+use Rattle.message.specs.Outcome.{Outcome, accepted, refused}
 use Rattle.message.specs.Outcome.Laws.{accepted-not-refused}
 use Rattle.message.specs.Plan.{isPlan}
-use Rattle.message.specs.Rows.{Rows, end, row}
+use Rattle.message.specs.Rows.{end, row}
 use Rattle.message.specs.Rows.Laws.{Ruled, ruled-row, ruled-end}
 use Rattle.record.specs.Record.{Tables, tablesOf, areLengths, openJudged, zeroed, opened, recordOpen}
 use Rattle.conformance.specs.Record.{WrongLengths}

@@ -1,17 +1,17 @@
 -- "Answer and tables are as in the event call": a role's own call and the event call agree where the tables that the role is not lent are
 -- sound.
---     SoundStates, SoundVotes, SoundInboxes, SoundOthers     the tables that are not lent
 --     rm-agrees, acceptor-agrees, leader-agrees
+--     sound-tables     on a sound record the tables not lent are sound
 -- Assumes nothing.
-use Prim.Native.Nat.{ℕ, _*_, _%_, _≤_, _<_}
+use Prim.Native.Nat.{ℕ, _*_, _≤_, _<_}
 use mathlib.Core.Bool.{Bool, true, false, not, _&&_}
 use mathlib.Core.List.{List}
 use mathlib.Core.Path.{_≡_, refl, sym, _∙_, ap}
 use native.Mathlib.Decide.{ℕ-discrete}
 use native.Mathlib.Omega.{arith}
-use lib.Dec.{ltb, eqb}
+use lib.Dec.{eqb}
 use lib.ListN.{length}
-use borrow.Author.Tests.{eq-eqb, ne-eqb, not-false, le-ltb, lt-ltb}
+use borrow.Author.Tests.{eq-eqb, not-false}
 use Rattle.message.specs.declared.Plan.{Plan}
 use Rattle.message.specs.Outcome.{Outcome, accepted, refused, andThen, refuseIf}
 use Rattle.message.specs.Outcome.Laws.{refuseIf-accepted}
@@ -19,38 +19,19 @@ use Rattle.message.specs.Plan.{isPlan}
 use Rattle.slots.specs.Table.{isTableLength, isTable}
 use Rattle.slots.specs.View.{viewTable}
 use Rattle.change.specs.declared.Change.{Change}
-use Rattle.change.specs.Change.{Step, refusal, applied}
+use Rattle.change.specs.Change.{applied}
 use Rattle.event.specs.Event.{kindOf, whoOf, isEvent}
 use Rattle.inbox.specs.Inbox.{forAll}
-use Rattle.inbox.specs.Inbox.Quantifiers.{forAll-all, all-forAll, forAll-fails}
+use Rattle.inbox.specs.Inbox.Quantifiers.{forAll-all, all-forAll}
 use Rattle.rm.specs.Rm.{areStates, rmJudged, rmVerdict, rmStep}
 use Rattle.acceptor.specs.Acceptor.{areVotes, acceptorJudged, acceptorVerdict, acceptorStep}
 use Rattle.leader.specs.Leader.{leaderJudged, leaderVerdict, leaderStep}
-use Rattle.record.specs.Record.{Tables, inboxSize, inboxOf, withInbox, areLengths, areInboxes, recordJudged, RecordStep, recordRefusal}
+use Rattle.record.specs.Record.{Tables, inboxSize, inboxOf, areLengths, areInboxes, recordJudged, RecordStep, recordRefusal}
 use Rattle.record.specs.Record.{onStates, onVotes, onInbox, roleStep, settled, recordStep}
 use Rattle.record.specs.Record.Parts.{length-inboxOf, with-inboxOf}
-use Rattle.conformance.specs.Record.{ownInbox}
+use Rattle.record.specs.Record.Laws.{sound}
+use Rattle.conformance.specs.Record.{ownInbox, SoundStates, SoundVotes, SoundInboxes, SoundOthers}
 use Rattle.conformance.specs.Record.Steps.{rmPart, acceptorPart, leaderPart, role-rm, role-acceptor, role-leader}
-
--- W is as rows 2 and 3 ask
-abbrev pub SoundStates : Plan → Tables → Type 0
-SoundStates p t = (length (t .states) ≡ p .rms) × (areStates (t .states) ≡ true)
-
--- Q is as rows 2 and 4 ask
-abbrev pub SoundVotes : Plan → Tables → Type 0
-SoundVotes p t = (length (t .votes) ≡ 3 * (p .rms * p .acceptors)) × (areVotes (t .votes) ≡ true)
-
--- I is as rows 2 and 6 ask
-abbrev pub SoundInboxes : Plan → Tables → Type 0
-SoundInboxes p t =
-    (length (t .inboxes) % p .leaders ≡ 0)
-    × (isTableLength (inboxSize p (t .inboxes)) ≡ true)
-    × ((l : ℕ) → l < p .leaders → isTable p (inboxOf p (t .inboxes) l) ≡ true)
-
--- I is L equal parts, and the inboxes of the other leaders are tables
-abbrev pub SoundOthers : Plan → Tables → ℕ → Type 0
-SoundOthers p t l =
-    (length (t .inboxes) % p .leaders ≡ 0) × ((k : ℕ) → k < p .leaders → (k ≡ l → ⊥) → isTable p (inboxOf p (t .inboxes) k) ≡ true)
 
 -- the chain of `recordJudged`: the plan, the lengths of W, Q and N, the parts of I and their length, and the four contents
 abbrev Chain : Bool → Bool → Bool → Bool → Bool → Bool → Bool → Bool → Bool → Bool → Outcome (Unit {0})
@@ -172,3 +153,14 @@ module _ (p : Plan) (t : Tables) (e : List ℕ) where
         (leaderVerdict p (viewTable p (ownInbox p t e)) (viewTable p (t .network)) e)
         (λ o. onInbox p (whoOf e) t (applied p (ownInbox p t e) (t .network) o)) (λ k. rw back)
         (λ event is. rw (plan-judged (isPlan p) 1 _ tt is, event)) (role-leader p t e large))
+
+-- on a sound record they are
+pub sound-tables : (p : Plan) (t : Tables) → recordJudged p t ≡ accepted tt
+    → SoundStates p t × SoundVotes p t × SoundInboxes p t × ((l : ℕ) → SoundOthers p t l)
+sound-tables p t j =
+    let s = sound p t j in (
+      (s .one-each, s .known-states),
+      (s .three-each, s .known-votes),
+      (s .equal-parts, s .part-whole, s .inboxes-ordered),
+      λ l. (s .equal-parts, λ k m n. s .inboxes-ordered k m),
+    )

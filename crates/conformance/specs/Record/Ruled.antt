@@ -6,16 +6,15 @@ use Prim.Native.Nat.{ℕ, _*_, _%_, _≤_, _<_}
 use mathlib.Core.Bool.{Bool, true, false, not, _&&_, false≢true}
 use mathlib.Core.List.{List}
 use mathlib.Core.Logic.{_⊎_, inl, inr, ⊎-elim}
-use mathlib.Core.Path.{_≡_, refl, sym, _∙_, ap}
+use mathlib.Core.Path.{_≡_, refl, sym, _∙_}
 use native.Mathlib.Omega.{arith}
 use lib.Dec.{eqb}
 use lib.ListN.{length}
-use borrow.Author.Tests.{eqb-true, eqb-false, not-false, not-true}
+use borrow.Author.Tests.{eqb-false}
 use Rattle.message.specs.declared.Plan.{Plan}
 use Rattle.message.specs.Outcome.{Outcome, accepted, refused, andThen, refuseIf}
-use Rattle.message.specs.Outcome.Laws.{both}
 use Rattle.message.specs.Plan.{isPlan}
-use Rattle.message.specs.Rows.{Rows, end, guard, row, Either, here, below}
+use Rattle.message.specs.Rows.{Rows, end, guard, row, here, below}
 use Rattle.message.specs.Rows.Laws.{Ruled, ruled-skip}
 use Rattle.slots.specs.Table.{isTableLength, isTable}
 use Rattle.change.specs.declared.Sent.{Sent}
@@ -23,7 +22,7 @@ use Rattle.event.specs.Event.{kindOf, whoOf, isEvent}
 use Rattle.inbox.specs.Inbox.Quantifiers.{forAll-all, forAll-fails}
 use Rattle.rm.specs.Rm.{areStates}
 use Rattle.acceptor.specs.Acceptor.{areVotes}
-use Rattle.record.specs.Record.{Tables, inboxSize, inboxOf, areLengths, areInboxes, recordJudged, RecordStep, roleStep, settled, recordStep}
+use Rattle.record.specs.Record.{Tables, inboxSize, areLengths, areInboxes, recordJudged, RecordStep, roleStep, settled, recordStep}
 use Rattle.record.specs.Record.Laws.{Sound, Lengths, lengths, sound-of, inbox-whole}
 use Rattle.event.specs.Event.Laws.{leader-who}
 use Rattle.matching.specs.Reading.{rmStateOf, aStateOf}
@@ -34,7 +33,7 @@ use Rattle.matching.specs.Acceptor.Ruled.{acceptor-ruled}
 use Rattle.matching.specs.Leader as Leader
 use Rattle.matching.specs.Leader.Ruled.{leader-ruled}
 use Rattle.matching.specs.Call.{SlotUnused, SlotHolds}
-use Rattle.conformance.specs.Record.{stateOf, ownInbox, WrongLengths, NotTaken, Disabled, Full, recordRows}
+use Rattle.conformance.specs.Record.{recordState, ownInbox, WrongLengths, NotTaken, Disabled, Full, recordRows}
 use Rattle.conformance.specs.Record.Steps.{Role, rm, acceptor, leader, roleOf, rmPart, acceptorPart, leaderPart, role-rm, role-acceptor, role-leader}
 
 module _ {A : Type 0} (o : Outcome A) where
@@ -143,7 +142,7 @@ module _ (p : Plan) (t : Tables) (e : List ℕ) where
         not-taken (inr (inl h)) = absurd (omega (arith, h .0))
         not-taken (inr (inr h)) = absurd (omega (arith, h .0))
 
-        enabled : Disabled p t e → Rm.Disabled p e (stateOf p t)
+        enabled : Disabled p t e → Rm.Disabled p e (recordState p t)
         enabled (here h) = h
         enabled (below (here h)) = absurd (omega (arith, h .0))
         enabled (below (below (here h))) = absurd (omega (arith, h .0))
@@ -182,7 +181,7 @@ module _ (p : Plan) (t : Tables) (e : List ℕ) where
         not-taken (inr (inl h)) = h .1
         not-taken (inr (inr h)) = absurd (omega (arith, h .0))
 
-        enabled : Disabled p t e → Acceptor.Disabled p (t .network) e (stateOf p t)
+        enabled : Disabled p t e → Acceptor.Disabled p (t .network) e (recordState p t)
         enabled (here (here h)) = absurd (omega (arith, h .0))
         enabled (here (below h)) = absurd (omega (arith, h .0))
         enabled (below (here h)) = h .1
@@ -224,7 +223,7 @@ module _ (p : Plan) (t : Tables) (e : List ℕ) where
         not-taken (inr (inl h)) = absurd (omega (arith, h .0))
         not-taken (inr (inr h)) = h
 
-        enabled : Disabled p t e → Leader.Disabled p (ownInbox p t e) e (stateOf p t)
+        enabled : Disabled p t e → Leader.Disabled p (ownInbox p t e) e (recordState p t)
         enabled (here (here h)) = absurd (omega (arith, h .0))
         enabled (here (below h)) = absurd (omega (arith, h .0))
         enabled (below (here h)) = absurd (omega (arith, h .0))

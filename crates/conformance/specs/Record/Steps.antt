@@ -8,19 +8,18 @@
 use Prim.Native.Nat.{ℕ, _≤_, _<_}
 use mathlib.Core.Bool.{Bool, true, false, not}
 use mathlib.Core.List.{List}
-use mathlib.Core.Path.{_≡_, refl, sym, _∙_, ap, ap₂, subst}
+use mathlib.Core.Path.{_≡_, refl, sym, _∙_, ap, subst}
 use native.Mathlib.Decide.{decLe, ℕ-discrete}
 use native.Mathlib.Omega.{arith}
 use lib.ListN.{length}
-use borrow.Author.Tests.{le-leb, lt-leb, eq-eqb, ne-eqb, not-false}
+use borrow.Author.Tests.{le-leb, lt-leb, eq-eqb, ne-eqb}
 use Rattle.message.specs.declared.Plan.{Plan}
 use Rattle.message.specs.Outcome.{Outcome, accepted, refused, andThen, refuseIf}
 use Rattle.message.specs.Outcome.Laws.{accepted-not-refused}
-use Rattle.message.specs.Plan.{isPlan}
 use Rattle.message.specs.Plan.Laws.{plan-bounds}
-use Rattle.slots.specs.Table.{isTableLength, isTable}
+use Rattle.slots.specs.Table.{isTable}
 use Rattle.change.specs.declared.Sent.{Sent}
-use Rattle.change.specs.Change.{Step, refusal}
+use Rattle.change.specs.Change.{Step}
 use Rattle.event.specs.Event.{kindOf, whoOf, isEvent}
 use Rattle.event.specs.Event.Laws.{leader-who}
 use Rattle.rm.specs.Rm.{rmStep}

@@ -1,27 +1,18 @@
 -- A majority in document 01's words: "any set of acceptors with 2 × size > A".
---     Distinct, AmongFirst     a list of different acceptors, all below a count and in a set
 --     quorum-set, set-quorum   a quorum has such a list of more than half, and what has one is a quorum
 -- Assumes nothing.
 use Prim.Native.Nat.{ℕ, zero, suc, _+_, _*_, _≤_, _<_, zero-le, suc-le-suc}
-use mathlib.Core.Bool.{Bool, true, false, not, _&&_, cond, false≢true}
+use mathlib.Core.Bool.{Bool, true, false, not, _&&_, cond}
 use mathlib.Core.List.{List, [], _∷_, map, List·Memᴰ, List·Memᴰ·head, List·Memᴰ·tail, List·Memᴰ·not-nil}
 use mathlib.Core.Path.{_≡_, refl, sym, _∙_, ap}
 use native.Mathlib.Nat.{not-suc-le-zero, le-of-suc-le-suc, zero-add}
 use native.Mathlib.Decide.{ℕ-discrete}
 use native.Mathlib.Omega.{arith}
-use lib.Dec.{ltb, eqb}
+use lib.Dec.{eqb}
 use lib.ListN.{length, length-map}
 use borrow.Author.Tests.{ltb-true, lt-ltb, ne-eqb, eq-eqb}
-use Rattle.quorum.specs.Quorum.{countAcceptors, isMajority, isQuorum}
+use Rattle.quorum.specs.Quorum.{countAcceptors, isMajority, isQuorum, Distinct, AmongFirst}
 use Rattle.quorum.specs.Quorum.Laws.{count-ext}
-
--- no number stands twice
-abbrev pub Distinct : List ℕ → Type 0
-Distinct [] = Unit {0}
-Distinct (a ∷ xs) = (List·Memᴰ a xs → ⊥) × Distinct xs
-
-abbrev pub AmongFirst : ℕ → (ℕ → Bool) → List ℕ → Type 0
-AmongFirst total set xs = (a : ℕ) → List·Memᴰ a xs → (a < total) × (set a ≡ true)
 
 mem-map : (xs : List ℕ) (b : ℕ) → List·Memᴰ b (map suc xs) → (a : ℕ) × (b ≡ suc a) × List·Memᴰ a xs
 mem-map [] b h = absurd (List·Memᴰ·not-nil h)

@@ -31,7 +31,7 @@ use Rattle.matching.specs.Theorems.{majorities-meet}
 use Rattle.matching.specs.Call.{HasRoom, Stores}
 use Rattle.matching.specs.Call.Laws.{member-at}
 use Rattle.matching.specs.Leader.{Phase2aAction, InboxFull}
-use Rattle.conformance.specs.Record.{stateOf, ownInbox, Acted}
+use Rattle.conformance.specs.Record.{recordState, ownInbox, Acted}
 use Rattle.conformance.specs.Record.{prepares, chooses-to-abort, receives-commit, receives-abort, promises, votes, receives, opens-ballot, proposes, commits, aborts}
 use Rattle.safety.specs.Grounds.{sentIn, seenBy, InvOf, Grounded}
 use Rattle.safety.specs.Grounds.Stored.{stores-length}
@@ -58,13 +58,13 @@ same-inboxes : {t′ : Tables} {states votes network inboxes : List ℕ} → t�
 same-inboxes same = ap (λ (u : Tables). u .inboxes) same
 
 module _ (p : Plan) (t : Tables) (e : List ℕ) (answer : Outcome Sent) (t′ : Tables) (g : Grounded p t) (s : Sound p t′) where
-  sends : (m : Message) → Send (isRM p) (isAcceptor p) (isMajoritySet p) m (stateOf p t) (stateOf p t′) → InvOf p t′ → t′ .inboxes ≡ t .inboxes
+  sends : (m : Message) → Send (isRM p) (isAcceptor p) (isMajoritySet p) m (recordState p t) (recordState p t′) → InvOf p t′ → t′ .inboxes ≡ t .inboxes
       → Unowned p m → Grounded p t′
   sends m sent inv same unowned =
       grounded-same p t t′ g s inv (λ x h. sent x .1 (inl h)) same
       (λ l b i v o h. ⊎-elim (λ k. k) (λ is. absurd (unowned l b i v o is)) (sent _ .0 h))
 
-  quiet : UnchangedMsgs (isRM p) (isAcceptor p) (isMajoritySet p) (stateOf p t) (stateOf p t′) → InvOf p t′ → t′ .inboxes ≡ t .inboxes → Grounded p t′
+  quiet : UnchangedMsgs (isRM p) (isAcceptor p) (isMajoritySet p) (recordState p t) (recordState p t′) → InvOf p t′ → t′ .inboxes ≡ t .inboxes → Grounded p t′
   quiet sent inv same = grounded-same p t t′ g s inv (λ x h. sent x .1 h) same (λ l b i v o h. sent _ .0 h)
 
   -- the inbox that gains a message for which it has room keeps its length
@@ -86,17 +86,17 @@ module _ (p : Plan) (t : Tables) (e : List ℕ) (answer : Outcome Sent) (t′ : 
 
   -- Phase2a: the leader has no 2a for the instance and its ballot, so nobody has sent one, and no other leader has to have it
   grounded-proposes : whoOf e < p .leaders → isRM p (highOf e) → owns p (whoOf e) (lowOf e) ≡ true
-      → (acts : Phase2aAction p (seenBy p t (whoOf e)) (lowOf e) (highOf e) (stateOf p t) (stateOf p t′))
+      → (acts : Phase2aAction p (seenBy p t (whoOf e)) (lowOf e) (highOf e) (recordState p t) (recordState p t′))
       → (m : Wire.Message) → phase2a (highOf e) (lowOf e) (acts .1 .2) ≡ messageOf m → (box : List ℕ) → Stores p (ownInbox p t e) m box
       → length box ≡ inboxSize p (t .inboxes) → t′ .inboxes ≡ withInbox p (t .inboxes) (whoOf e) box → Grounded p t′
   grounded-proposes member rm owned acts m is box stores whole same =
       grounded-inbox p t t′ g s
-      (inv-phase2a (g .inv) (stateOf p t′) (majorities-meet p .1) _ (heard member) (lowOf e) (highOf e) rm (owns-above p (lowOf e) (whoOf e) owned) unsent acts)
+      (inv-phase2a (g .inv) (recordState p t′) (majorities-meet p .1) _ (heard member) (lowOf e) (highOf e) rm (owns-above p (lowOf e) (whoOf e) owned) unsent acts)
       (λ x h. sent x .1 (inl h)) (whoOf e) member m box stores whole same
       (rw (← is) (sent _ .1 (inr refl)))
       (λ k b i v o h. ⊎-elim inl (λ d. inr (d ∙ is, owner k b i v o d)) (sent _ .0 h))
     where
-      sent : Send (isRM p) (isAcceptor p) (isMajoritySet p) (phase2a (highOf e) (lowOf e) (acts .1 .2)) (stateOf p t) (stateOf p t′)
+      sent : Send (isRM p) (isAcceptor p) (isMajoritySet p) (phase2a (highOf e) (lowOf e) (acts .1 .2)) (recordState p t) (recordState p t′)
       sent = acts .1 .5
 
       unsent : (v : Val) → sentIn p t (phase2a (highOf e) (lowOf e) v) → ⊥
@@ -107,17 +107,17 @@ module _ (p : Plan) (t : Tables) (e : List ℕ) (answer : Outcome Sent) (t′ : 
 
   pub grounded-acted : (InboxFull p (ownInbox p t e) (t .network) e → ⊥) → Acted p t e answer t′ → Grounded p t′
   grounded-acted room (prepares kind rm acts sent same) =
-      sends _ (acts .2) (inv-rm-prepare (g .inv) (stateOf p t′) (whoOf e) rm acts) (same-inboxes same) (unowned-zero p (whoOf e) _)
+      sends _ (acts .2) (inv-rm-prepare (g .inv) (recordState p t′) (whoOf e) rm acts) (same-inboxes same) (unowned-zero p (whoOf e) _)
   grounded-acted room (chooses-to-abort kind rm acts sent same) =
-      sends _ (acts .2) (inv-rm-choose-to-abort (g .inv) (stateOf p t′) (whoOf e) rm acts) (same-inboxes same) (unowned-zero p (whoOf e) _)
+      sends _ (acts .2) (inv-rm-choose-to-abort (g .inv) (recordState p t′) (whoOf e) rm acts) (same-inboxes same) (unowned-zero p (whoOf e) _)
   grounded-acted room (receives-commit kind rm slot acts is same) =
-      quiet (acts .3) (inv-rm-rcv-commit (g .inv) (stateOf p t′) (whoOf e) rm acts) (same-inboxes same)
+      quiet (acts .3) (inv-rm-rcv-commit (g .inv) (recordState p t′) (whoOf e) rm acts) (same-inboxes same)
   grounded-acted room (receives-abort kind rm slot acts is same) =
-      quiet (acts .3) (inv-rm-rcv-abort (g .inv) (stateOf p t′) (whoOf e) rm acts) (same-inboxes same)
+      quiet (acts .3) (inv-rm-rcv-abort (g .inv) (recordState p t′) (whoOf e) rm acts) (same-inboxes same)
   grounded-acted room (promises kind acc ins bal slot acts sent same) =
-      sends _ (acts .3) (inv-phase1b (g .inv) (stateOf p t′) (whoOf e) acc ins bal acts) (same-inboxes same) (unowned-other p _ refl)
+      sends _ (acts .3) (inv-phase1b (g .inv) (recordState p t′) (whoOf e) acc ins bal acts) (same-inboxes same) (unowned-other p _ refl)
   grounded-acted room (votes kind acc ins bal val slot acts sent same) =
-      sends _ (acts .3) (inv-phase2b (g .inv) (stateOf p t′) (whoOf e) acc ins bal _ acts) (same-inboxes same) (unowned-other p _ refl)
+      sends _ (acts .3) (inv-phase2b (g .inv) (recordState p t′) (whoOf e) acc ins bal _ acts) (same-inboxes same) (unowned-other p _ refl)
   grounded-acted room (receives kind member m slot taken is box stores same) =
       grounded-inbox p t t′ g s (rw same (g .inv)) (λ x h. rw same h) (whoOf e) member m box stores
       (box-whole member m (λ full. room (inl (kind, (m, slot, full)))) box stores)
@@ -125,16 +125,16 @@ module _ (p : Plan) (t : Tables) (e : List ℕ) (answer : Outcome Sent) (t′ : 
       (rw same (m, member-at _ _ m slot, refl))
       (λ k b i v o h. inl (rw same at h))
   grounded-acted room (opens-ballot kind member rm owned acts sent same) =
-      sends _ (acts .0) (inv-phase1a (g .inv) (stateOf p t′) (lowOf e) (highOf e) rm (owns-above p (lowOf e) (whoOf e) owned) acts)
+      sends _ (acts .0) (inv-phase1a (g .inv) (recordState p t′) (lowOf e) (highOf e) rm (owns-above p (lowOf e) (whoOf e) owned) acts)
       (same-inboxes same)
       (unowned-other p _ refl)
   grounded-acted room (proposes kind member rm owned acts is sent box stores same) =
       grounded-proposes member rm owned acts _ is box stores (box-whole member _ (λ full. room (inr (kind, full))) box stores) (same-inboxes same)
   grounded-acted room (commits kind member acts sent same) =
-      sends _ (acts .1) (inv-decide-commit (g .inv) (stateOf p t′) (decided (seenBy p t (whoOf e))) (λ i. chosen member i _) acts)
+      sends _ (acts .1) (inv-decide-commit (g .inv) (recordState p t′) (decided (seenBy p t (whoOf e))) (λ i. chosen member i _) acts)
       (same-inboxes same)
       (unowned-other p _ refl)
   grounded-acted room (aborts kind member acts sent same) =
-      sends _ (acts .1) (inv-decide-abort (g .inv) (stateOf p t′) (decided (seenBy p t (whoOf e))) (λ i. chosen member i _) acts)
+      sends _ (acts .1) (inv-decide-abort (g .inv) (recordState p t′) (decided (seenBy p t (whoOf e))) (λ i. chosen member i _) acts)
       (same-inboxes same)
       (unowned-other p _ refl)

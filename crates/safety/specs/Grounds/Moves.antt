@@ -20,7 +20,7 @@ use Rattle.record.specs.Record.{Tables, tablesOf}
 use Rattle.record.specs.Record.Laws.{Sound}
 use Rattle.matching.specs.Reading.{isRM, rmStateOf}
 use Rattle.matching.specs.Theorems.{majorities-meet}
-use Rattle.conformance.specs.Record.{stateOf, Acted}
+use Rattle.conformance.specs.Record.{recordState, Acted}
 use Rattle.conformance.specs.Record.{prepares, chooses-to-abort, receives-commit, receives-abort, promises, votes, receives, opens-ballot, proposes, commits, aborts}
 use Rattle.safety.specs.Grounds.{Grounded}
 
@@ -55,13 +55,13 @@ module _ (p : Plan) (t : Tables) (g : Grounded p t) where
     stays same = inl (ap (λ (u : Tables). u .states) same)
 
     pub path-acted : Acted p t e answer t′ → Path p (t .states) (t′ .states)
-    path-acted (prepares kind rm acts sent same) = path-step p _ _ size (tc-rm-prepare (g .inv) (stateOf p t′) (whoOf e) rm acts)
+    path-acted (prepares kind rm acts sent same) = path-step p _ _ size (tc-rm-prepare (g .inv) (recordState p t′) (whoOf e) rm acts)
     path-acted (chooses-to-abort kind rm acts sent same) =
-        path-step p _ _ size (tc-rm-choose-to-abort (g .inv) (stateOf p t′) (whoOf e) rm (majorities-meet p .1) acts)
+        path-step p _ _ size (tc-rm-choose-to-abort (g .inv) (recordState p t′) (whoOf e) rm (majorities-meet p .1) acts)
     path-acted (receives-commit kind rm slot acts is same) =
-        path-step p _ _ size (tc-rm-rcv-commit (g .inv) (stateOf p t′) (whoOf e) rm (majorities-meet p .1) acts)
+        path-step p _ _ size (tc-rm-rcv-commit (g .inv) (recordState p t′) (whoOf e) rm (majorities-meet p .1) acts)
     path-acted (receives-abort kind rm slot acts is same) =
-        path-step p _ _ size (tc-rm-rcv-abort (g .inv) (stateOf p t′) (whoOf e) rm (majorities-meet p .1) acts)
+        path-step p _ _ size (tc-rm-rcv-abort (g .inv) (recordState p t′) (whoOf e) rm (majorities-meet p .1) acts)
     path-acted (promises kind acc ins bal slot acts sent same) = stays same
     path-acted (votes kind acc ins bal val slot acts sent same) = stays same
     path-acted (receives kind member m slot taken is box stores same) = stays same

@@ -1,6 +1,7 @@
 -- A record of zeros, sound or not.
 --     agreed-zeros       in W none is committed
 --     messages-none      N holds no message
+--     initial-zeros      it reads as PCInit of module PaxosCommit
 --     grounded-zeros     if it is judged sound, it is grounded
 -- Assumes nothing.
 use Prim.Native.Nat.{ℕ, _<_}
@@ -12,13 +13,14 @@ use Rattle.message.specs.declared.Plan.{Plan}
 use Rattle.message.specs.Plan.Laws.{plan-bounds}
 use Rattle.slots.specs.Table.{messages}
 use Rattle.tcommit.specs.RmState.{committed}
-use Rattle.paxos_commit.specs.PaxosCommit.{Message}
+use Rattle.paxos_commit.specs.PaxosCommit.{Message, PCInit}
 use Rattle.paxos_commit.specs.PaxosCommit.Safety.Histories.{inv-init}
 use Rattle.record.specs.Record.{Tables, inboxSize, zeroed}
 use Rattle.record.specs.Record.Laws.{Sound}
 use Rattle.record.specs.Record.Parts.{zeros-inboxOf}
-use Rattle.matching.specs.Reading.{setOf}
-use Rattle.safety.specs.Grounds.{sentIn, seenBy, Grounded}
+use Rattle.matching.specs.Reading.{isRM, isAcceptor, isMajoritySet, setOf}
+use Rattle.conformance.specs.Record.{recordState}
+use Rattle.safety.specs.Grounds.{seenBy, Grounded}
 use Rattle.safety.specs.Grounds.Zeros.{member-zeros, getD-zeros, messages-zeros, aStateOf-zeros}
 
 -- a table of zeros holds no message
@@ -34,24 +36,27 @@ module _ (p : Plan) (t : Tables) where
   unfolding zeroed
   messages-none network = ap (messages p) network ∙ messages-zeros p (length (t .network))
 
+  -- it reads as the published initial state
+  pub initial-zeros : t .states ≡ zeroed (t .states) → t .votes ≡ zeroed (t .votes) → t .network ≡ zeroed (t .network)
+      → PCInit (isRM p) (isAcceptor p) (isMajoritySet p) (recordState p t)
+  unfolding zeroed
+  initial-zeros states votes network = (
+    (λ rm q. rw states (getD-zeros (length (t .states)) rm)),
+    (λ ins ac q k. rw votes (aStateOf-zeros p (length (t .votes)) ins ac)),
+    λ x h. none-zeros p (length (t .network)) x (rw network at h),
+  )
+
   pub grounded-zeros : t .states ≡ zeroed (t .states) → t .votes ≡ zeroed (t .votes) → t .network ≡ zeroed (t .network) → t .inboxes ≡ zeroed (t .inboxes)
       → Sound p t → Grounded p t
   unfolding zeroed
   grounded-zeros states votes network inboxes s =
       record {
         sound = s;
-        inv = inv-init (
-          (λ rm q. rw states (getD-zeros (length (t .states)) rm)),
-          (λ ins ac q k. rw votes (aStateOf-zeros p (length (t .votes)) ins ac)),
-          unsent,
-        );
+        inv = inv-init (initial-zeros states votes network);
         inboxes = λ l h x k. absurd (unseen l h x k);
-        own-2a = λ l h b o i v k. absurd (unsent _ k);
+        own-2a = λ l h b o i v k. absurd (initial-zeros states votes network .2 _ k);
       }
     where
-      unsent : (x : Message) → sentIn p t x → ⊥
-      unsent x h = none-zeros p (length (t .network)) x (rw network at h)
-
       unseen : (l : ℕ) → l < p .leaders → (x : Message) → seenBy p t l x → ⊥
       unseen l h x k =
           let n : ℕ = inboxSize p (replicate (length (t .inboxes)) 0) in

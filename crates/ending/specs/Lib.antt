@@ -1,0 +1,3 @@
+-- How an order stands.
+--     Ending     committed, aborted or open, from W
+pub mod Ending
