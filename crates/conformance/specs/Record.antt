@@ -1,6 +1,7 @@
 -- What the match of the event call with module PaxosCommit speaks of. The theorems are in Theorems.antt, their proofs in Record/.
 --     recordState        the variables rmState, aState and msgs, as W, Q and N hold them
 --     ownInbox       the inbox of the event's leader
+--     tableRows, rmTableRows, acceptorTableRows, leaderTableRows     the rows that judge the plan and the tables
 --     recordRows     the rows of "Refusals by place" for the event call
 --     SoundStates, SoundVotes, SoundInboxes, SoundOthers     the tables that a role's own call is not lent
 --     EventForm, inboxesUpTo     row 7 and the parts of I in document 01's words
@@ -9,6 +10,7 @@
 pub mod Ruled
 pub mod Opened
 pub mod Steps
+pub mod Judges
 pub mod Acts
 pub mod Slots
 pub mod Inboxes
@@ -83,15 +85,46 @@ Full p t e =
     ⊎ (((kindOf e ≡ 3) × Acceptor.Full p (t .votes) (t .network) e)
     ⊎ Leader.Full p (ownInbox p t e) (t .network) e)
 
--- the event call: the plan, the four tables, the event, and the rows of all nine kinds
-abbrev pub recordRows : Plan → Tables → List ℕ → Rows
-recordRows p t e =
+-- rows 1 to 6, and those below them: the plan and the four tables
+abbrev pub tableRows : Plan → Tables → Rows → Rows
+tableRows p t rest =
     row 1 (isPlan p ≡ false)
     (row 2 (WrongLengths p t)
     (row 3 (areStates (t .states) ≡ false)
     (row 4 (areVotes (t .votes) ≡ false)
     (row 5 (isTable p (t .network) ≡ false)
     (row 6 ((l : ℕ) × (l < p .leaders) × (isTable p (inboxOf p (t .inboxes) l) ≡ false))
+    rest)))))
+
+-- of a role's own call: the plan and its two tables
+abbrev pub rmTableRows : Plan → List ℕ → List ℕ → Rows
+rmTableRows p states network =
+    row 1 (isPlan p ≡ false)
+    (row 2 ((length states ≡ p .rms → ⊥) ⊎ (isTableLength (length network) ≡ false))
+    (row 3 (areStates states ≡ false)
+    (row 5 (isTable p network ≡ false)
+    end)))
+
+abbrev pub acceptorTableRows : Plan → List ℕ → List ℕ → Rows
+acceptorTableRows p votes network =
+    row 1 (isPlan p ≡ false)
+    (row 2 ((length votes ≡ 3 * (p .rms * p .acceptors) → ⊥) ⊎ (isTableLength (length network) ≡ false))
+    (row 4 (areVotes votes ≡ false)
+    (row 5 (isTable p network ≡ false)
+    end)))
+
+abbrev pub leaderTableRows : Plan → List ℕ → List ℕ → Rows
+leaderTableRows p inbox network =
+    row 1 (isPlan p ≡ false)
+    (row 2 ((isTableLength (length inbox) ≡ false) ⊎ (isTableLength (length network) ≡ false))
+    (row 5 (isTable p network ≡ false)
+    (row 6 (isTable p inbox ≡ false)
+    end)))
+
+-- the event call: the plan, the four tables, the event, and the rows of all nine kinds
+abbrev pub recordRows : Plan → Tables → List ℕ → Rows
+recordRows p t e =
+    tableRows p t
     (row 7 (isEvent p e ≡ false)
     (row 8 ((2 ≤ kindOf e) × (kindOf e ≤ 4) × SlotUnused p (t .network) e)
     (row 9 (NotTaken p t e)
@@ -100,7 +133,7 @@ recordRows p t e =
     (guard 12 (Disabled p t e)
     (row 13 (Full p t e)
     (row 14 (Leader.InboxFull p (ownInbox p t e) (t .network) e)
-    end)))))))))))))
+    end))))))))
 
 -- row 7: who is a resource manager, an acceptor or a leader; kinds 0, 1, 7 and 8 have zeros, 5 and 6 an instance and any ballot
 abbrev pub EventForm : Plan → ℕ → ℕ → ℕ → ℕ → Type 0
@@ -171,7 +204,7 @@ module _ (p : Plan) (t : Tables) (e : List ℕ) (answer : Outcome Sent) (t′ : 
     promises : kindOf e ≡ 3 → isAcceptor p (whoOf e) → (ins bal : ℕ) → InSlot p (t .network) e (Phase1a ins bal)
         → Phase1bAction p (whoOf e) ins bal (recordState p t) (recordState p t′) → Sent-in-N (reportOf p (t .votes) (whoOf e) ins bal)
         → t′ ≡ tablesOf (t .states) (set (t .votes) (at ins) bal) (t′ .network) (t .inboxes) → Acted
-    votes : kindOf e ≡ 3 → isAcceptor p (whoOf e) → (ins bal val : ℕ) → InSlot p (t .network) e (Phase2a ins bal val)
+    casts-vote : kindOf e ≡ 3 → isAcceptor p (whoOf e) → (ins bal val : ℕ) → InSlot p (t .network) e (Phase2a ins bal val)
         → Phase2bAction p (whoOf e) ins bal (valOf val) (recordState p t) (recordState p t′) → Sent-in-N (Phase2b ins (whoOf e) bal val)
         → t′ ≡ tablesOf (t .states) (set (set (set (t .votes) (at ins) bal) (at ins + 1) bal) (at ins + 2) val) (t′ .network) (t .inboxes) → Acted
     receives : kindOf e ≡ 4 → whoOf e < p .leaders → (m : Wire.Message) → InSlot p (t .network) e m → Leader.isReceived m ≡ true

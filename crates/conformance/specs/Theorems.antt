@@ -5,9 +5,10 @@
 --     record-keeps       a refused call leaves the four tables as they were
 --     record-acts        an accepted call sets what the published action sets in rmState, aState and msgs together; the sent message, the
 --                        answered slot, the one inbox and all other bytes are given
---     record-slot        an answered slot is one of N's, below 1,024
+--     record-slot, role-slots     an answered slot is one of N's, below 1,024
 --     record-inboxes     an event call changes no inbox but that of its own leader
 --     record-sound       a sound record stays sound
+--     judge-answers, role-judges     what makes a record sound, and a role's own tables: rows 1 to 6
 --     rm-agrees, acceptor-agrees, leader-agrees     a role's own call answers and leaves what the event call does; no-event, sound-tables
 --     open-answers, open-keeps, open-zeros          opening
 -- Assumes nothing.
@@ -15,7 +16,7 @@ use Prim.Native.Nat.{ℕ, _≤_, _<_}
 use mathlib.Core.Bool.{false}
 use mathlib.Core.List.{List}
 use mathlib.Core.Logic.{_⊎_}
-use mathlib.Core.Path.{_≡_, refl}
+use mathlib.Core.Path.{_≡_, refl, ap}
 use lib.ListN.{length, replicate}
 use Rattle.message.specs.declared.Plan.{Plan}
 use Rattle.message.specs.Outcome.{accepted, refused}
@@ -28,14 +29,15 @@ use Rattle.event.specs.Event.{kindOf, whoOf, isEvent}
 use Rattle.rm.specs.Rm.{rmJudged, rmStep}
 use Rattle.acceptor.specs.Acceptor.{acceptorJudged, acceptorStep}
 use Rattle.leader.specs.Leader.{leaderJudged, leaderStep}
-use Rattle.record.specs.Record.{Tables, tablesOf, inboxOf, recordJudged, recordOpen, recordRefusal, onStates, onVotes, onInbox, recordStep}
-use Rattle.conformance.specs.Record.{WrongLengths, recordRows, SoundStates, SoundVotes, SoundInboxes, SoundOthers, Acted}
+use Rattle.record.specs.Record.{Tables, tablesOf, inboxOf, recordJudged, recordOpen, RecordStep, onStates, onVotes, onInbox, recordStep}
+use Rattle.conformance.specs.Record.{WrongLengths, recordRows, tableRows, rmTableRows, acceptorTableRows, leaderTableRows, SoundStates, SoundVotes, SoundInboxes, SoundOthers, Acted}
 use Rattle.conformance.specs.Record.Ruled.{record-ruled}
 use Rattle.conformance.specs.Record.Opened as Opened
 use Rattle.conformance.specs.Record.Steps.{keeps, stays-sound}
 use Rattle.matching.specs.Call.{roomOf}
 use Rattle.conformance.specs.Record.Acts.{acts}
-use Rattle.conformance.specs.Record.Slots.{slot-below}
+use Rattle.conformance.specs.Record.Judges.{record-judges, rm-judges, acceptor-judges, leader-judges}
+use Rattle.conformance.specs.Record.Slots.{slot-below, rm-slot, acceptor-slot, leader-slot}
 use Rattle.conformance.specs.Record.Inboxes.{inbox-kept, no-event-record, no-event-rm, no-event-acceptor, no-event-leader}
 use Rattle.conformance.specs.Record.Roles as Roles
 
@@ -44,8 +46,8 @@ module _ (p : Plan) (t : Tables) (e : List ℕ) where
   unfolding isAscending
   record-answers = lowest-of-ruled _ refl _ (record-ruled p t e)
 
-  pub record-keeps : (k : ℕ) → recordStep p t e .answer ≡ refused k → recordStep p t e ≡ recordRefusal t k
-  record-keeps = keeps p t e
+  pub record-keeps : (k : ℕ) → recordStep p t e .answer ≡ refused k → recordStep p t e .tables ≡ t
+  record-keeps k is = ap (λ (r : RecordStep). r .tables) (keeps p t e k is)
 
   pub record-acts : (sent : Sent) → recordStep p t e .answer ≡ accepted sent → Acted p t e (recordStep p t e .answer) (recordStep p t e .tables)
   record-acts = acts p t e
@@ -53,6 +55,13 @@ module _ (p : Plan) (t : Tables) (e : List ℕ) where
   pub record-slot : (s : ℕ) → recordStep p t e .answer ≡ accepted (Slot s)
       → (s < roomOf (recordStep p t e .tables .network)) × (s < 1024)
   record-slot = slot-below p t e
+
+  -- so in a role's own call
+  pub role-slots : (s : ℕ)
+      → ((states network : List ℕ) → rmStep p states network e .answer ≡ accepted (Slot s) → s < 1024)
+      × ((votes network : List ℕ) → acceptorStep p votes network e .answer ≡ accepted (Slot s) → s < 1024)
+      × ((inbox network : List ℕ) → leaderStep p inbox network e .answer ≡ accepted (Slot s) → s < 1024)
+  role-slots s = (rm-slot p e s, acceptor-slot p e s, leader-slot p e s)
 
   pub record-inboxes : (l : ℕ) → l < p .leaders → (kindOf e ≤ 3) ⊎ (l ≡ whoOf e → ⊥)
       → inboxOf p (recordStep p t e .tables .inboxes) l ≡ inboxOf p (t .inboxes) l
@@ -71,6 +80,23 @@ module _ (p : Plan) (t : Tables) (e : List ℕ) where
   pub leader-agrees : SoundStates p t → SoundVotes p t → whoOf e < p .leaders → SoundOthers p t (whoOf e) → 3 < kindOf e
       → recordStep p t e ≡ onInbox p (whoOf e) t (leaderStep p (inboxOf p (t .inboxes) (whoOf e)) (t .network) e)
   leader-agrees = Roles.leader-agrees p t e
+
+-- the judgement of the plan and the tables by itself
+pub judge-answers : (p : Plan) (t : Tables) → Lowest (tableRows p t end) (recordJudged p t)
+unfolding isAscending
+judge-answers p t = lowest-of-ruled _ refl _ (record-judges p t)
+
+-- a role's: the plan, its two tables
+pub role-judges : (p : Plan)
+    → ((states network : List ℕ) → Lowest (rmTableRows p states network) (rmJudged p states network))
+    × ((votes network : List ℕ) → Lowest (acceptorTableRows p votes network) (acceptorJudged p votes network))
+    × ((inbox network : List ℕ) → Lowest (leaderTableRows p inbox network) (leaderJudged p inbox network))
+unfolding isAscending
+role-judges p = (
+  λ states network. lowest-of-ruled _ refl _ (rm-judges p states network),
+  λ votes network. lowest-of-ruled _ refl _ (acceptor-judges p votes network),
+  λ inbox network. lowest-of-ruled _ refl _ (leader-judges p inbox network),
+)
 
 -- what is no event is refused with 7 by every call on sound tables
 pub no-event : (p : Plan) (e : List ℕ) → isEvent p e ≡ false

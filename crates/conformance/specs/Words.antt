@@ -6,25 +6,35 @@
 --     votes-range                   in Q, val is at most 2, and where val is 0 so is bal
 --     table-form                    a table is the slots of its messages, all in range, then unused ones
 --     event-form                    four bytes: the kind, a process of its role, and high and low as the kind asks
+--     event-bytes, vote-place       the order of an event's bytes and the slot that they name; the place of an acceptor's three bytes in Q
 --     owner-rule                    leader l owns ballot b when b > 0 and b mod L = l
 --     majority-rule                 a majority is a set of acceptors with 2 × size > A
 --     inboxes-joined, inbox-replaced     I is its L inboxes one after the other, each of one size; one is replaced without the others
+--     tables-mean, open-means, step-means, role-means, read-means     what the records and enums in the contracts stand for: nothing but their parts
 -- Assumes nothing.
 use Prim.Native.Nat.{ℕ, _+_, _*_, _%_, _≤_, _<_}
 use mathlib.Core.Bool.{Bool, true}
-use mathlib.Core.List.{List}
+use mathlib.Core.List.{List, [], _∷_}
 use mathlib.Core.Logic.{_↔_}
-use mathlib.Core.Path.{_≡_}
+use mathlib.Core.Path.{_≡_, refl}
 use lib.ListN.{length, getD}
 use Rattle.message.specs.declared.Plan.{Plan}
+use Rattle.message.specs.declared.Message.{Message}
+use Rattle.message.specs.declared.Read.the-variants as Reads
+use Rattle.message.specs.Outcome.{accepted, refused}
+use Rattle.message.specs.Codec.{readOutcome}
 use Rattle.message.specs.Plan.{isPlan}
 use Rattle.slots.specs.Table.{isTableLength, isTable, messages}
-use Rattle.event.specs.Event.{kindOf, whoOf, highOf, lowOf, isEvent}
+use Rattle.event.specs.Event.{kindOf, whoOf, highOf, lowOf, slotNumber, isEvent}
+use Rattle.change.specs.declared.Sent.{Sent}
+use Rattle.change.specs.declared.Answer.the-variants as Answers
+use Rattle.change.specs.declared.Judged.the-variants as Judgements
+use Rattle.change.specs.Change.{stepOf}
 use Rattle.quorum.specs.Quorum.{isQuorum, Distinct, AmongFirst}
 use Rattle.rm.specs.Rm.{areStates}
-use Rattle.acceptor.specs.Acceptor.{areVotes}
+use Rattle.acceptor.specs.Acceptor.{voteAt, areVotes}
 use Rattle.leader.specs.Leader.{owns}
-use Rattle.record.specs.Record.{inboxSize, inboxOf, withInbox}
+use Rattle.record.specs.Record.{Tables, tablesOf, inboxSize, inboxOf, withInbox, openingOf, recordStepOf}
 use Rattle.record.specs.Record.Parts as Parts
 use Rattle.matching.specs.Call.{HeldBy}
 use Rattle.conformance.specs.Record.{EventForm, inboxesUpTo}
@@ -59,8 +69,8 @@ event-form = Laws.event-form
 pub owner-rule : (p : Plan) (l b : ℕ) → (owns p l b ≡ true) ↔ ((0 < b) × (b % p .leaders ≡ l))
 owner-rule = Laws.owner-rule
 
-pub majority-rule : (A : ℕ) (set : ℕ → Bool)
-    → (isQuorum A set ≡ true) ↔ ((members : List ℕ) × Distinct members × AmongFirst A set members × (A < 2 * length members))
+pub majority-rule : (A : ℕ) (test : ℕ → Bool)
+    → (isQuorum A test ≡ true) ↔ ((members : List ℕ) × Distinct members × AmongFirst A test members × (A < 2 * length members))
 majority-rule = Laws.majority-rule
 
 pub inboxes-joined : (p : Plan) (inboxes : List ℕ) → length inboxes % p .leaders ≡ 0 → inboxesUpTo p inboxes (p .leaders) ≡ inboxes
@@ -74,3 +84,40 @@ pub inbox-replaced : (p : Plan) (inboxes : List ℕ) (l : ℕ) → l < p .leader
     → (inboxOf p (withInbox p inboxes l box) l ≡ box)
     × ((k : ℕ) → k < p .leaders → (k ≡ l → ⊥) → inboxOf p (withInbox p inboxes l box) k ≡ inboxOf p inboxes k)
 inbox-replaced = Laws.inbox-replaced
+
+pub event-bytes : (kind who high low : ℕ)
+    → (kindOf (kind ∷ who ∷ high ∷ low ∷ []) ≡ kind)
+    × (whoOf (kind ∷ who ∷ high ∷ low ∷ []) ≡ who)
+    × (highOf (kind ∷ who ∷ high ∷ low ∷ []) ≡ high)
+    × (lowOf (kind ∷ who ∷ high ∷ low ∷ []) ≡ low)
+    × (slotNumber (kind ∷ who ∷ high ∷ low ∷ []) ≡ 256 * high + low)
+unfolding slotNumber
+event-bytes kind who high low = (refl, refl, refl, refl, refl)
+
+pub vote-place : (p : Plan) (i a : ℕ) → voteAt p i a ≡ 3 * (i * p .acceptors + a)
+unfolding voteAt
+vote-place p i a = refl
+
+-- the four tables in a contract are the four lists
+pub tables-mean : (w q n i : List ℕ)
+    → (tablesOf w q n i .states ≡ w) × (tablesOf w q n i .votes ≡ q) × (tablesOf w q n i .network ≡ n) × (tablesOf w q n i .inboxes ≡ i)
+tables-mean w q n i = (refl, refl, refl, refl)
+
+-- an answer in a contract is the acceptance with its values, or the number, and the tables are as they are lent
+pub open-means : (k : ℕ) (t : Tables)
+    → (openingOf Judgements.Sound t ≡ record { answer = accepted tt; tables = t })
+    × (openingOf (Judgements.Refused k) t ≡ record { answer = refused k; tables = t })
+open-means k t = (refl, refl)
+
+pub step-means : (sent : Sent) (k : ℕ) (t : Tables)
+    → (recordStepOf (Answers.Accepted sent) t ≡ record { answer = accepted sent; tables = t })
+    × (recordStepOf (Answers.Refused k) t ≡ record { answer = refused k; tables = t })
+step-means sent k t = (refl, refl)
+
+pub role-means : (sent : Sent) (k : ℕ) (table network : List ℕ)
+    → (stepOf (Answers.Accepted sent) table network ≡ record { answer = accepted sent; table = table; network = network })
+    × (stepOf (Answers.Refused k) table network ≡ record { answer = refused k; table = table; network = network })
+role-means sent k table network = (refl, refl)
+
+pub read-means : (m : Message) (k : ℕ) → (readOutcome (Reads.Message m) ≡ accepted m) × (readOutcome (Reads.Refused k) ≡ refused k)
+read-means m k = (refl, refl)

@@ -3,9 +3,10 @@
 --     order, fresh          the plan and the fresh record
 --     committing, aborting, declining     the lists of calls
 --     orders-end            what they answer, and W afterwards
+--     spread, places        three weights, three acceptors and two leaders: where each call puts its bytes in the four tables
 -- Assumes nothing.
 use Prim.Native.Nat.{ℕ}
-use mathlib.Core.List.{List, [], _∷_}
+use mathlib.Core.List.{List, [], _∷_, _++_}
 use mathlib.Core.Path.{_≡_, refl}
 use lib.ListN.{replicate}
 use Rattle.message.specs.declared.Plan.{Plan}
@@ -66,3 +67,24 @@ unfolding readMessage andThen refuseIf isPlan isCount isValue isVote isInRange b
     receiptStore receipt phase1a phase2aMessage keepOwn sendBoth phase2a sendOnly decideSend leaderKind leaderVerdict leaderStep
     inboxSize inboxOf withInbox areLengths areInboxes recordJudged roleStep recordStep
 orders-end = (refl, refl, refl, refl, refl, refl)
+
+-- leader 1 opens ballot 3 for weight 2, acceptor 1 promises, leader 1 hears of it, weight 2 prepares
+abbrev pub spread : List Call
+spread = event (5 ∷ 1 ∷ 2 ∷ 3 ∷ []) ∷ event (3 ∷ 1 ∷ 0 ∷ 0 ∷ []) ∷ event (4 ∷ 1 ∷ 0 ∷ 1 ∷ []) ∷ event (0 ∷ 2 ∷ 0 ∷ 0 ∷ []) ∷ []
+
+-- mbal of weight 2 and acceptor 1 is byte 3 × (2 × 3 + 1) of Q, and leader 1's inbox begins in the middle of I
+pub places :
+    tablesAfter (record { rms = 3; acceptors = 3; leaders = 2 })
+    (tablesOf (replicate 3 0) (replicate 27 0) (replicate 24 0) (replicate 24 0)) spread
+    ≡ tablesOf (0 ∷ 0 ∷ 1 ∷ []) (replicate 21 0 ++ (3 ∷ replicate 5 0))
+    ((0x09 ∷ 2 ∷ 3 ∷ 0 ∷ 0 ∷ 0 ∷ []) ++ ((0x07 ∷ 2 ∷ 1 ∷ 3 ∷ 0 ∷ 0 ∷ []) ++ ((0x19 ∷ 2 ∷ 0 ∷ 1 ∷ 0 ∷ 0 ∷ []) ++ replicate 6 0)))
+    (replicate 12 0 ++ ((0x07 ∷ 2 ∷ 1 ∷ 3 ∷ 0 ∷ 0 ∷ []) ++ replicate 6 0))
+unfolding readMessage andThen refuseIf isPlan isCount isValue isVote isInRange bytesOf bytesOf1b messageLength slotOf mapLengths
+    mapLength fieldsMessage decode all isTableLength slotsUpTo slots isZero readSlot readTable allUnused isOrdered isTable usedMessages
+    messages sameBytes storeAt sameMessage placeFrom placeIn messageAt sending slotNumber whoLimit areZero areArguments isEvent
+    areStates rmJudged rmChoose rmReceiveDecision rmReceive rmKind rmVerdict rmStep voteAt
+    isVoteState areVotes acceptorJudged voteOf phase1b phase2b acceptorReceive acceptorVerdict acceptorStep countAcceptors isMajority
+    isQuorum any is1b is2a is2b higher reportOf highestReport proposal chosen isChosen2b decided forAll forSome owns leaderJudged
+    receiptStore receipt phase1a phase2aMessage keepOwn sendBoth phase2a sendOnly decideSend leaderKind leaderVerdict leaderStep
+    inboxSize inboxOf withInbox areLengths areInboxes recordJudged roleStep recordStep
+places = refl

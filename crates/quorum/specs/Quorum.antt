@@ -29,4 +29,4 @@ Distinct (a ∷ xs) = (List·Memᴰ a xs → ⊥) × Distinct xs
 
 -- all below a count, and in a set
 abbrev pub AmongFirst : ℕ → (ℕ → Bool) → List ℕ → Type 0
-AmongFirst total set xs = (a : ℕ) → List·Memᴰ a xs → (a < total) × (set a ≡ true)
+AmongFirst total test xs = (a : ℕ) → List·Memᴰ a xs → (a < total) × (test a ≡ true)

@@ -39,7 +39,7 @@ use Rattle.matching.specs.Leader.{isReceived}
 use Rattle.matching.specs.Leader.Took as LeaderTook
 use Rattle.matching.specs.Leader.Laws as Leader
 use Rattle.matching.specs.Theorems as Match
-use Rattle.conformance.specs.Record.{ownInbox, Acted, prepares, chooses-to-abort, receives-commit, receives-abort, promises, votes}
+use Rattle.conformance.specs.Record.{ownInbox, Acted, prepares, chooses-to-abort, receives-commit, receives-abort, promises, casts-vote}
 use Rattle.conformance.specs.Record.{receives, opens-ballot, proposes, commits, aborts}
 use Rattle.conformance.specs.Record.Steps.{Role, rm, acceptor, leader, roleOf, rmPart, acceptorPart, leaderPart}
 use Rattle.conformance.specs.Record.Steps.{role-rm, role-acceptor, role-leader, Taken, taken}
@@ -119,7 +119,7 @@ module _ (p : Plan) (t : Tables) (e : List ℕ) where
           let (a, s, v) = Match.acceptor-phase1b p (t .votes) (t .network) e w ok ins bal at in promises kind who ins bal at a s (with-votes v)
       go (Phase1b ins acc mbal vote) at change got = absurd (accepted-not-refused got)
       go (Phase2a ins bal val) at change got =
-          let (a, s, v) = Match.acceptor-phase2b p (t .votes) (t .network) e w ok ins bal val at in votes kind who ins bal val at a s (with-votes v)
+          let (a, s, v) = Match.acceptor-phase2b p (t .votes) (t .network) e w ok ins bal val at in casts-vote kind who ins bal val at a s (with-votes v)
       go (Phase2b ins acc bal val) at change got = absurd (accepted-not-refused got)
       go (Decision val) at change got = absurd (accepted-not-refused got)
 

@@ -55,9 +55,9 @@ owner-rule p l b = (
   λ h. rw (le-leb 1 b (h .0), eq-eqb (b % p .leaders) l (h .1)),
 )
 
-pub majority-rule : (A : ℕ) (set : ℕ → Bool)
-    → (isQuorum A set ≡ true) ↔ ((members : List ℕ) × Distinct members × AmongFirst A set members × (A < 2 * length members))
-majority-rule A set = (quorum-set A set, λ (members, d, among, many). set-quorum A set members d among many)
+pub majority-rule : (A : ℕ) (test : ℕ → Bool)
+    → (isQuorum A test ≡ true) ↔ ((members : List ℕ) × Distinct members × AmongFirst A test members × (A < 2 * length members))
+majority-rule A test = (quorum-set A test, λ (members, d, among, many). set-quorum A test members d among many)
 
 -- every byte of a list passes a test
 module _ (test : ℕ → Bool) where

@@ -25,22 +25,22 @@ distinct-map (a ∷ xs) (new, d) = (λ h. let (x, e, m) = mem-map xs (suc a) h i
 
 -- the members of a set below a count
 Listed : ℕ → (ℕ → Bool) → Type 0
-Listed total set = (xs : List ℕ) × Distinct xs × AmongFirst total set xs × (length xs ≡ countAcceptors total set)
+Listed total test = (xs : List ℕ) × Distinct xs × AmongFirst total test xs × (length xs ≡ countAcceptors total test)
 
-listed : (total : ℕ) (set : ℕ → Bool) → Listed total set
+listed : (total : ℕ) (test : ℕ → Bool) → Listed total test
 unfolding Listed countAcceptors
-listed zero set = ([], tt, λ a h. absurd (List·Memᴰ·not-nil h), refl)
-listed (suc total) set = go (set 0) refl (listed total (λ a. set (suc a)))
+listed zero test = ([], tt, λ a h. absurd (List·Memᴰ·not-nil h), refl)
+listed (suc total) test = go (test 0) refl (listed total (λ a. test (suc a)))
   where
-    above : (xs : List ℕ) → AmongFirst total (λ a. set (suc a)) xs → AmongFirst (suc total) set (map suc xs)
+    above : (xs : List ℕ) → AmongFirst total (λ a. test (suc a)) xs → AmongFirst (suc total) test (map suc xs)
     above xs among b h = let (a, e, m) = mem-map xs b h in let (l, s) = among a m in (rw e (suc-le-suc l), rw e s)
 
-    with-zero : (xs : List ℕ) → set 0 ≡ true → AmongFirst (suc total) set (map suc xs) → AmongFirst (suc total) set (0 ∷ map suc xs)
+    with-zero : (xs : List ℕ) → test 0 ≡ true → AmongFirst (suc total) test (map suc xs) → AmongFirst (suc total) test (0 ∷ map suc xs)
     with-zero xs e among b (List·Memᴰ·head is) = (rw is (suc-le-suc zero-le), rw is e)
     with-zero xs e among b (List·Memᴰ·tail m) = among b m
 
-    go : (t : Bool) → set 0 ≡ t → Listed total (λ a. set (suc a))
-        → (xs : List ℕ) × Distinct xs × AmongFirst (suc total) set xs × (length xs ≡ cond t 1 0 + countAcceptors total (λ a. set (suc a)))
+    go : (t : Bool) → test 0 ≡ t → Listed total (λ a. test (suc a))
+        → (xs : List ℕ) × Distinct xs × AmongFirst (suc total) test xs × (length xs ≡ cond t 1 0 + countAcceptors total (λ a. test (suc a)))
     go true e (xs, d, among, size) = (
       0 ∷ map suc xs,
       (λ h. let (a, is, m) = mem-map xs 0 h in omega arith, distinct-map xs d),
@@ -54,17 +54,17 @@ and-not true b e = rw e
 and-not false b e = refl
 
 -- a set without one of its members
-count-without : (total : ℕ) (set : ℕ → Bool) (a : ℕ) → a < total → set a ≡ true
-    → countAcceptors total set ≡ suc (countAcceptors total (λ x. set x && not (eqb x a)))
+count-without : (total : ℕ) (test : ℕ → Bool) (a : ℕ) → a < total → test a ≡ true
+    → countAcceptors total test ≡ suc (countAcceptors total (λ x. test x && not (eqb x a)))
 unfolding countAcceptors
-count-without zero set a h e = absurd (not-suc-le-zero h)
-count-without (suc total) set zero h e =
-    let rest : countAcceptors total (λ x. set (suc x)) ≡ countAcceptors total (λ x. set (suc x) && not (eqb (suc x) 0))
-    = count-ext total _ _ (λ x l. and-not (set (suc x)) _ (ne-eqb (suc x) 0 (λ k. omega arith))) in
+count-without zero test a h e = absurd (not-suc-le-zero h)
+count-without (suc total) test zero h e =
+    let rest : countAcceptors total (λ x. test (suc x)) ≡ countAcceptors total (λ x. test (suc x) && not (eqb (suc x) 0))
+    = count-ext total _ _ (λ x l. and-not (test (suc x)) _ (ne-eqb (suc x) 0 (λ k. omega arith))) in
     rw e (omega arith)
-count-without (suc total) set (suc a) h e =
-    rw (count-without total (λ x. set (suc x)) a (le-of-suc-le-suc h) e)
-    (go (set 0) (countAcceptors total (λ x. set (suc x) && not (eqb x a))) (count-ext total _ _ (λ x l. ap (λ (b : Bool). set (suc x) && not b) (same x))))
+count-without (suc total) test (suc a) h e =
+    rw (count-without total (λ x. test (suc x)) a (le-of-suc-le-suc h) e)
+    (go (test 0) (countAcceptors total (λ x. test (suc x) && not (eqb x a))) (count-ext total _ _ (λ x l. ap (λ (b : Bool). test (suc x) && not b) (same x))))
   where
     same : (x : ℕ) → eqb x a ≡ eqb (suc x) (suc a)
     same x =
@@ -81,22 +81,22 @@ count-without (suc total) set (suc a) h e =
         by false = omega arith
 
 -- a list of different members is not longer than the set
-distinct-fits : (total : ℕ) (xs : List ℕ) (set : ℕ → Bool) → Distinct xs → AmongFirst total set xs → length xs ≤ countAcceptors total set
-distinct-fits total [] set d among = zero-le
-distinct-fits total (a ∷ xs) set (new, d) among =
+distinct-fits : (total : ℕ) (xs : List ℕ) (test : ℕ → Bool) → Distinct xs → AmongFirst total test xs → length xs ≤ countAcceptors total test
+distinct-fits total [] test d among = zero-le
+distinct-fits total (a ∷ xs) test (new, d) among =
     let (l, e) = among a (List·Memᴰ·head refl) in
-    rw (count-without total set a l e) (suc-le-suc (distinct-fits total xs _ d others))
+    rw (count-without total test a l e) (suc-le-suc (distinct-fits total xs _ d others))
   where
-    others : AmongFirst total (λ x. set x && not (eqb x a)) xs
+    others : AmongFirst total (λ x. test x && not (eqb x a)) xs
     others b m =
         let (l, e) = among b (List·Memᴰ·tail m) in
         (l, rw (e, ne-eqb b a (λ k. new (rw k at m))))
 
-module _ (total : ℕ) (set : ℕ → Bool) where
-  pub quorum-set : isQuorum total set ≡ true → (xs : List ℕ) × Distinct xs × AmongFirst total set xs × (total < 2 * length xs)
+module _ (total : ℕ) (test : ℕ → Bool) where
+  pub quorum-set : isQuorum total test ≡ true → (xs : List ℕ) × Distinct xs × AmongFirst total test xs × (total < 2 * length xs)
   unfolding isQuorum isMajority Listed
-  quorum-set h = let (xs, d, among, size) = listed total set in (xs, d, among, rw size (ltb-true total _ h))
+  quorum-set h = let (xs, d, among, size) = listed total test in (xs, d, among, rw size (ltb-true total _ h))
 
-  pub set-quorum : (xs : List ℕ) → Distinct xs → AmongFirst total set xs → total < 2 * length xs → isQuorum total set ≡ true
+  pub set-quorum : (xs : List ℕ) → Distinct xs → AmongFirst total test xs → total < 2 * length xs → isQuorum total test ≡ true
   unfolding isQuorum isMajority
-  set-quorum xs d among many = let fits = distinct-fits total xs set d among in lt-ltb total (2 * countAcceptors total set) (omega arith)
+  set-quorum xs d among many = let fits = distinct-fits total xs test d among in lt-ltb total (2 * countAcceptors total test) (omega arith)

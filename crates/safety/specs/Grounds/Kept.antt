@@ -32,7 +32,7 @@ use Rattle.matching.specs.Call.{HasRoom, Stores}
 use Rattle.matching.specs.Call.Laws.{member-at}
 use Rattle.matching.specs.Leader.{Phase2aAction, InboxFull}
 use Rattle.conformance.specs.Record.{recordState, ownInbox, Acted}
-use Rattle.conformance.specs.Record.{prepares, chooses-to-abort, receives-commit, receives-abort, promises, votes, receives, opens-ballot, proposes, commits, aborts}
+use Rattle.conformance.specs.Record.{prepares, chooses-to-abort, receives-commit, receives-abort, promises, casts-vote, receives, opens-ballot, proposes, commits, aborts}
 use Rattle.safety.specs.Grounds.{sentIn, seenBy, InvOf, Grounded}
 use Rattle.safety.specs.Grounds.Stored.{stores-length}
 use Rattle.safety.specs.Grounds.Inboxes.{grounded-same, grounded-inbox}
@@ -116,7 +116,7 @@ module _ (p : Plan) (t : Tables) (e : List ℕ) (answer : Outcome Sent) (t′ : 
       quiet (acts .3) (inv-rm-rcv-abort (g .inv) (recordState p t′) (whoOf e) rm acts) (same-inboxes same)
   grounded-acted room (promises kind acc ins bal slot acts sent same) =
       sends _ (acts .3) (inv-phase1b (g .inv) (recordState p t′) (whoOf e) acc ins bal acts) (same-inboxes same) (unowned-other p _ refl)
-  grounded-acted room (votes kind acc ins bal val slot acts sent same) =
+  grounded-acted room (casts-vote kind acc ins bal val slot acts sent same) =
       sends _ (acts .3) (inv-phase2b (g .inv) (recordState p t′) (whoOf e) acc ins bal _ acts) (same-inboxes same) (unowned-other p _ refl)
   grounded-acted room (receives kind member m slot taken is box stores same) =
       grounded-inbox p t t′ g s (rw same (g .inv)) (λ x h. rw same h) (whoOf e) member m box stores

@@ -21,7 +21,7 @@ use Rattle.record.specs.Record.Laws.{Sound}
 use Rattle.matching.specs.Reading.{isRM, rmStateOf}
 use Rattle.matching.specs.Theorems.{majorities-meet}
 use Rattle.conformance.specs.Record.{recordState, Acted}
-use Rattle.conformance.specs.Record.{prepares, chooses-to-abort, receives-commit, receives-abort, promises, votes, receives, opens-ballot, proposes, commits, aborts}
+use Rattle.conformance.specs.Record.{prepares, chooses-to-abort, receives-commit, receives-abort, promises, casts-vote, receives, opens-ballot, proposes, commits, aborts}
 use Rattle.safety.specs.Grounds.{Grounded}
 
 -- a member stands at a place
@@ -63,7 +63,7 @@ module _ (p : Plan) (t : Tables) (g : Grounded p t) where
     path-acted (receives-abort kind rm slot acts is same) =
         path-step p _ _ size (tc-rm-rcv-abort (g .inv) (recordState p t′) (whoOf e) rm (majorities-meet p .1) acts)
     path-acted (promises kind acc ins bal slot acts sent same) = stays same
-    path-acted (votes kind acc ins bal val slot acts sent same) = stays same
+    path-acted (casts-vote kind acc ins bal val slot acts sent same) = stays same
     path-acted (receives kind member m slot taken is box stores same) = stays same
     path-acted (opens-ballot kind member rm owned acts sent same) = stays same
     path-acted (proposes kind member rm owned acts is sent box stores same) = stays same

@@ -18,11 +18,11 @@ use Rattle.slots.specs.Table.{messages}
 use Rattle.slots.specs.Send.{messageAt}
 use Rattle.change.specs.declared.Sent.{Sent}
 use Rattle.tcommit.specs.RmState.{committed, aborted}
-use Rattle.record.specs.Record.{Tables, tablesOf, zeroed, recordJudged, RecordStep, recordStep}
+use Rattle.record.specs.Record.{Tables, tablesOf, zeroed, recordJudged, recordStep}
 use Rattle.record.specs.Record.Laws.{Sound, sound, judged}
 use Rattle.matching.specs.Call.{Sends}
 use Rattle.conformance.specs.Record.{Acted}
-use Rattle.conformance.specs.Record.{prepares, chooses-to-abort, receives-commit, receives-abort, promises, votes, receives, opens-ballot, proposes, commits, aborts}
+use Rattle.conformance.specs.Record.{prepares, chooses-to-abort, receives-commit, receives-abort, promises, casts-vote, receives, opens-ballot, proposes, commits, aborts}
 use Rattle.conformance.specs.Theorems.{record-answers, record-keeps, record-acts, record-sound}
 use Rattle.safety.specs.Grounds.{Grounded}
 use Rattle.safety.specs.Grounds.Stored.{stores-slot}
@@ -62,7 +62,7 @@ module _ (p : Plan) (t : Tables) (e : List ℕ) where
   still-sound g = sound p _ (record-sound p t e (judged p t (g .sound)))
 
   kept-refused : (k : ℕ) → recordStep p t e .answer ≡ refused k → recordStep p t e .tables ≡ t
-  kept-refused k is = ap (λ (r : RecordStep). r .tables) (record-keeps p t e k is)
+  kept-refused k is = record-keeps p t e k is
 
   grounded-event : Grounded p t → Path p (t .states) (recordStep p t e .tables .states) × Grounded p (recordStep p t e .tables)
   grounded-event g = go (recordStep p t e .answer) refl
@@ -107,7 +107,7 @@ module _ (p : Plan) (t : Tables) (e : List ℕ) where
     slot-acted (receives-commit kind rm slot acts is same) = slot-quiet same
     slot-acted (receives-abort kind rm slot acts is same) = slot-quiet same
     slot-acted (promises kind acc ins bal slot acts sent same) = slot-sent sent
-    slot-acted (votes kind acc ins bal val slot acts sent same) = slot-sent sent
+    slot-acted (casts-vote kind acc ins bal val slot acts sent same) = slot-sent sent
     slot-acted (receives kind member x slot taken is box stores same) = slot-quiet same
     slot-acted (opens-ballot kind member rm owned acts sent same) = slot-sent sent
     slot-acted (proposes kind member rm owned acts is sent box stores same) = slot-sent sent

@@ -1,0 +1,59 @@
+// Opening and the event call for other languages: numbers and byte slices in, one number out. Both are lent W (`states`), Q (`votes`),
+// N (`network`) and I (`inboxes`), of any content and length.
+//
+//     paxos_commit_open     the four tables zeroed
+//     paxos_commit_step     the event call of all nine kinds
+//
+// What the numbers mean stands in specs/Code.antt and in the crate host_code.
+ghost use mathlib.Core.Path.{_≡_};
+ghost use Rattle.record.specs.Record.{tablesOf, recordOpen, recordStep};
+ghost use Rattle.host_code.specs.Code.{planOf};
+ghost use Rattle.host_record.specs.Code.{hostOpening, hostOpeningOf, hostEvent, hostEventOf};
+use message::Plan;
+
+// Opens a record: 0, and every byte of the four tables 0. Refused: 1 or 2, and no byte changes.
+#[no_mangle]
+pub extern "C" fn paxos_commit_open(
+    rms: u8,
+    acceptors: u8,
+    leaders: u8,
+    states: &mut [u8],
+    votes: &mut [u8],
+    network: &mut [u8],
+    inboxes: &mut [u8],
+) -> u8
+    ensures { λ r. ⌜ hostOpening r (tablesOf (now (states .exit)) (now (votes .exit)) (now (network .exit)) (now (inboxes .exit))) ≡
+        hostOpeningOf (recordOpen (planOf rms acceptors leaders) (tablesOf (now (states .entry)) (now (votes .entry)) (now (network .entry)) (now (inboxes .entry)))) ⌝ }
+{
+    let plan = Plan {
+        rms,
+        acceptors,
+        leaders,
+    };
+    change::judged_number(record::open(plan, states, votes, network, inboxes))
+}
+
+// The event call. Accepted: the slot of N where the sent message stands, or 65535 for quiet (kinds 2 and 4). Refused: 65536 and the
+// number, 1 to 14; then no byte changes.
+#[no_mangle]
+pub extern "C" fn paxos_commit_step(
+    rms: u8,
+    acceptors: u8,
+    leaders: u8,
+    states: &mut [u8],
+    votes: &mut [u8],
+    network: &mut [u8],
+    inboxes: &mut [u8],
+    event: &[u8],
+) -> u32
+    ensures { λ r. ⌜ hostEvent r (tablesOf (now (states .exit)) (now (votes .exit)) (now (network .exit)) (now (inboxes .exit))) ≡
+        hostEventOf (recordStep (planOf rms acceptors leaders)
+        (tablesOf (now (states .entry)) (now (votes .entry)) (now (network .entry)) (now (inboxes .entry))) (now (event .entry))) ⌝ }
+{
+    let plan = Plan {
+        rms,
+        acceptors,
+        leaders,
+    };
+    host_code::answer_code(record::step(plan, states, votes, network, inboxes, event))
+}
