@@ -1,5 +1,5 @@
 -- What the match of the event call with module PaxosCommit speaks of. The theorems are in Theorems.antt, their proofs in Record/.
---     recordState        the variables rmState, aState and msgs, as W, Q and N hold them
+--     recordState    the variables rmState, aState and msgs, as W, Q and N hold them
 --     ownInbox       the inbox of the event's leader
 --     tableRows, rmTableRows, acceptorTableRows, leaderTableRows     the rows that judge the plan and the tables
 --     recordRows     the rows of "Refusals by place" for the event call

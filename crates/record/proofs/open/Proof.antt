@@ -24,7 +24,8 @@ open-spec =
     (λ c. search needs)
     (λ c. search needs)
     (λ c. search needs)
-    (λ c. open-cleared _ _ _ (c .before .before .before .before .before .before .before .before .before .before .before .before .before .before .before .before .before .before .judge-lengths .ensures)
+    (λ c. open-cleared _ _ _
+    (c .before .before .before .before .before .before .before .before .before .before .before .before .before .before .before .before .before .before .judge-lengths .ensures)
     (c .before .before .before .before .before .before .before .before .before .before .before .before .before .before .before .before .enum-told .given .1) _ _ _ _
     (c .before .before .before .before .before .before .before .before .before .before .before .before .before .before .clear .ensures)
     (c .before .before .before .before .before .before .before .before .before .before .clear2 .ensures)

@@ -74,7 +74,8 @@ unfolding messageAt
 before-cons p x ms m k n b zero h e = absent-cons p x [] m n (λ i f. let z : _≡_ {A = ℕ} 0 1 = cc in omega arith) zero e
 before-cons p x ms m k n b (suc i) h e = b i (le-of-suc-le-suc h) e
 
-place-cons : (p : Plan) (j room : ℕ) (x : Message) (ms : List Message) (m : Message) → sameMessage p x m ≡ false → (q : Place) → PlaceCase (suc j) room ms m q → PlaceCase j room (x ∷ ms) m q
+place-cons : (p : Plan) (j room : ℕ) (x : Message) (ms : List Message) (m : Message) → sameMessage p x m ≡ false → (q : Place)
+    → PlaceCase (suc j) room ms m q → PlaceCase j room (x ∷ ms) m q
 unfolding messageAt
 place-cons p j room x ms m n q (at i k e h b) = at i (suc k) (omega arith) h (before-cons p x ms m k n b)
 place-cons p j room x ms m n q (free i e h a) = free i (omega arith) h (absent-cons p x ms m n a)
