@@ -1,0 +1,189 @@
+/*
+ * The proved Paxos Commit record, for C and C++.
+ *
+ * The calls are written in Rattle and proved to answer and store exactly what document 01 says. Each group below is a
+ * static library of its own; a host links the one that it needs, and none has another role's code. They link into
+ * x86-64 programs, position independent or not, need `memset` and nothing else, and use less than 8 KiB of stack.
+ *
+ *     libhost_message.a     paxos_commit_read, paxos_commit_write
+ *     libhost_rm.a          paxos_commit_rm_step
+ *     libhost_acceptor.a    paxos_commit_acceptor_step
+ *     libhost_leader.a      paxos_commit_leader_step
+ *     libhost_record.a      paxos_commit_open, paxos_commit_step
+ *
+ * What is lent is any bytes of any length: there is nothing to check before a call. A call accepts, or answers one
+ * refusal, the one with the lowest number that applies; a refusal changes no byte. Every call ends.
+ *
+ * What is the caller's affair, as everywhere in C: a pointer is followed by the number of bytes behind it, all
+ * readable, and writable where the pointer is not to const. No pointer is null, also with length 0 (then any other
+ * pointer will do). A table that may be written overlaps nothing else that is lent to the same call. With other
+ * pointers nothing is promised.
+ *
+ * Calls keep nothing between them: no state, no pointer, no lock. Several threads may call at once, each on tables that
+ * no other call uses at that time.
+ */
+#ifndef PAXOS_COMMIT_H
+#define PAXOS_COMMIT_H
+
+#include <stddef.h>
+#include <stdint.h>
+
+#ifdef __cplusplus
+extern "C" {
+#endif
+
+/* The plan: `rms` resource managers (document 01: weights), 1 to 16; `acceptors`, 1 to 7; `leaders`, 1 to 4; each
+ * numbered from 0. All calls on a record are given the plan that it was opened with: the tables do not keep it, and no
+ * call compares it. */
+
+/* Sizes in bytes. N (network) has `slots` slots, at most 1,024, and so has each inbox of I (inboxes); 0 is allowed. */
+#define PAXOS_COMMIT_SLOT 6
+#define PAXOS_COMMIT_MAX_SLOTS 1024
+#define PAXOS_COMMIT_STATES_SIZE(rms) ((size_t)(rms))
+#define PAXOS_COMMIT_VOTES_SIZE(rms, acceptors) ((size_t)3 * (rms) * (acceptors))
+#define PAXOS_COMMIT_NETWORK_SIZE(slots) ((size_t)6 * (slots))
+#define PAXOS_COMMIT_INBOX_SIZE(slots) ((size_t)6 * (slots))
+#define PAXOS_COMMIT_INBOXES_SIZE(leaders, slots) ((size_t)6 * (slots) * (leaders))
+
+/* The largest plan and tables: 16 + 336 + 6,144 + 24,576 bytes. */
+#define PAXOS_COMMIT_STATES_MAX 16
+#define PAXOS_COMMIT_VOTES_MAX 336
+#define PAXOS_COMMIT_NETWORK_MAX 6144
+#define PAXOS_COMMIT_INBOXES_MAX 24576
+
+/* Why a call was refused: of the reasons that apply, the one with the lowest number. 0 is no refusal. */
+enum paxos_commit_refusal {
+    /* every call: rms, acceptors or leaders out of range */
+    PAXOS_COMMIT_BAD_PLAN = 1,
+    /* a table's length: not the plan's, not whole slots, or over 1,024 slots */
+    PAXOS_COMMIT_BAD_LENGTHS = 2,
+    /* a byte of W above 3 */
+    PAXOS_COMMIT_BAD_STATES = 3,
+    /* in Q a val above 2, or val 0 with a bal that is not 0 */
+    PAXOS_COMMIT_BAD_VOTES = 4,
+    /* in N a slot that is neither unused nor a readable message followed by zeros, or a used slot after an unused */
+    PAXOS_COMMIT_BAD_NETWORK = 5,
+    /* the same in an inbox */
+    PAXOS_COMMIT_BAD_INBOXES = 6,
+    /* not four bytes, a kind above 8 or of another role, who or instance out of range, or a byte that should be 0 */
+    PAXOS_COMMIT_BAD_EVENT = 7,
+    /* the slot is unused or beyond N */
+    PAXOS_COMMIT_NO_MESSAGE = 8,
+    /* the slot's message is not one that this role takes */
+    PAXOS_COMMIT_WRONG_ROLE = 9,
+    /* kinds 5 and 6: the leader does not own the ballot (it does when ballot > 0 and ballot mod leaders = who) */
+    PAXOS_COMMIT_NOT_OWNED = 10,
+    /* kind 2: Commit while working or aborted, Abort while committed. Proved never to come on a record opened fresh */
+    PAXOS_COMMIT_CONTRADICTION = 11,
+    /* the action is not enabled */
+    PAXOS_COMMIT_NOT_ENABLED = 12,
+    /* the message to send is not in N, and N has no unused slot */
+    PAXOS_COMMIT_NETWORK_FULL = 13,
+    /* likewise for the inbox */
+    PAXOS_COMMIT_INBOX_FULL = 14,
+    /* reader: no bytes, or an unknown map; writer: a map that is none of the six */
+    PAXOS_COMMIT_UNKNOWN_MAP = 15,
+    /* reader: the length is not the map's */
+    PAXOS_COMMIT_WRONG_LENGTH = 16,
+    /* reader, writer: ins, acc or val out of range, or a 1a with bal 0 */
+    PAXOS_COMMIT_OUT_OF_RANGE = 17
+};
+
+/* A weight's state, a byte of W. */
+enum paxos_commit_state {
+    PAXOS_COMMIT_WORKING = 0,
+    PAXOS_COMMIT_PREPARED = 1,
+    PAXOS_COMMIT_COMMITTED = 2,
+    PAXOS_COMMIT_ABORTED = 3
+};
+
+/* A message's first byte, its bit map; then one byte for each field whose bit stands: bit 0 ins, 1 acc, 2 mbal, 3 bal,
+ * 4 val. */
+enum paxos_commit_map {
+    PAXOS_COMMIT_1A = 0x09,      /* ins, bal from 1: 3 bytes */
+    PAXOS_COMMIT_1B = 0x07,      /* ins, acc, mbal: no vote; 4 bytes */
+    PAXOS_COMMIT_1B_VOTE = 0x1F, /* ins, acc, mbal, bal, val: 6 bytes */
+    PAXOS_COMMIT_2A = 0x19,      /* ins, bal, val: 4 bytes */
+    PAXOS_COMMIT_2B = 0x1B,      /* ins, acc, bal, val: 5 bytes */
+    PAXOS_COMMIT_DECISION = 0x10 /* val 1 Commit, 2 Abort: 2 bytes */
+};
+
+/* An event's first byte. An event is four bytes: kind, who, high, low. For kinds 2, 3 and 4, 256 * high + low is a slot
+ * of N; for 5 and 6 high is the instance and low the ballot; otherwise both are 0. */
+enum paxos_commit_kind {
+    PAXOS_COMMIT_PREPARE = 0,         /* weight: sends 2a(who, 0, 1) */
+    PAXOS_COMMIT_CHOOSE_TO_ABORT = 1, /* weight: sends 2a(who, 0, 2) */
+    PAXOS_COMMIT_TAKE_DECISION = 2,   /* weight: takes the decision in the slot; quiet */
+    PAXOS_COMMIT_VOTE = 3,            /* acceptor: answers the 1a in the slot by a 1b, or the 2a there by a 2b */
+    PAXOS_COMMIT_RECEIPT = 4,         /* leader: takes the 1b or 2b in the slot into its inbox; quiet */
+    PAXOS_COMMIT_PHASE_1A = 5,        /* leader: sends 1a(high, low) */
+    PAXOS_COMMIT_PHASE_2A = 6,        /* leader: sends 2a(high, low, v) and keeps it in its inbox, whose 1b say v */
+    PAXOS_COMMIT_COMMIT = 7,          /* leader: sends Commit */
+    PAXOS_COMMIT_ABORT = 8            /* leader: sends Abort */
+};
+
+/* What a step answers: below 1,024 the slot of N where the sent message stands; 65535 for an accepted step that sends
+ * nothing (kinds 2 and 4); or 65536 and the refusal. */
+#define PAXOS_COMMIT_QUIET ((uint32_t)65535)
+#define PAXOS_COMMIT_REFUSED ((uint32_t)65536)
+
+/* The refusal that a step's answer is; 0 for an accepted step. */
+static inline uint8_t paxos_commit_refusal_of(uint32_t answer) {
+    return answer < PAXOS_COMMIT_REFUSED ? 0 : (uint8_t)(answer - PAXOS_COMMIT_REFUSED);
+}
+
+/* Byte k of what the reader or the writer answers, byte 0 the lowest. */
+static inline uint8_t paxos_commit_byte(uint64_t answer, unsigned k) { return (uint8_t)(answer >> (8 * k)); }
+
+/* ---- libhost_message.a ---- */
+
+/* The reader. `bytes` must be exactly one message. Byte 0 of the answer is 0, byte 1 the map, bytes 2 to 6 ins, acc,
+ * mbal, bal and val, 0 for one that the message does not have, and byte 7 is 0. Refused: byte 0 is 1, 15, 16 or 17 and
+ * the others are 0. */
+uint64_t paxos_commit_read(uint8_t rms, uint8_t acceptors, uint8_t leaders, const uint8_t *bytes, size_t len);
+
+/* The writer, of the message with this map; fields that it does not have are not looked at. Byte 0 of the answer is 0,
+ * byte 1 the message's length, and bytes 2 to 7 are the message followed by zeros, as it stands in a slot. Refused:
+ * byte 0 is 1, 15 (a map that is none of the six) or 17 and the others are 0. */
+uint64_t paxos_commit_write(uint8_t rms, uint8_t acceptors, uint8_t leaders, uint8_t map, uint8_t ins, uint8_t acc,
+                            uint8_t mbal, uint8_t bal, uint8_t val);
+
+/* ---- libhost_rm.a ---- */
+
+/* The step of a resource manager: kinds 0, 1 and 2. `states` is W, PAXOS_COMMIT_STATES_SIZE bytes. Refused: 1, 2, 3, 5,
+ * 7, 8, 9, 11, 12 or 13. */
+uint32_t paxos_commit_rm_step(uint8_t rms, uint8_t acceptors, uint8_t leaders, uint8_t *states, size_t states_len,
+                              uint8_t *network, size_t network_len, const uint8_t *event, size_t event_len);
+
+/* ---- libhost_acceptor.a ---- */
+
+/* The step of an acceptor: kind 3. `votes` is Q, PAXOS_COMMIT_VOTES_SIZE bytes: mbal, bal and val of acceptor a for
+ * instance i from byte 3 * (i * acceptors + a). Refused: 1, 2, 4, 5, 7, 8, 9, 12 or 13. */
+uint32_t paxos_commit_acceptor_step(uint8_t rms, uint8_t acceptors, uint8_t leaders, uint8_t *votes, size_t votes_len,
+                                    uint8_t *network, size_t network_len, const uint8_t *event, size_t event_len);
+
+/* ---- libhost_leader.a ---- */
+
+/* The step of a leader: kinds 4 to 8. `inbox` is that leader's inbox alone, whole slots; nothing ties it to the event's
+ * `who`, which is the host's to see to. Refused: 1, 2, 5, 6, 7, 8, 9, 10, 12, 13 or 14. */
+uint32_t paxos_commit_leader_step(uint8_t rms, uint8_t acceptors, uint8_t leaders, uint8_t *inbox, size_t inbox_len,
+                                  uint8_t *network, size_t network_len, const uint8_t *event, size_t event_len);
+
+/* ---- libhost_record.a ---- */
+
+/* Opens a record: 0, and every byte of the four tables is 0. Refused: 1 or 2. `inboxes` is I, PAXOS_COMMIT_INBOXES_SIZE
+ * bytes; leader l's inbox is its l-th equal part. */
+uint8_t paxos_commit_open(uint8_t rms, uint8_t acceptors, uint8_t leaders, uint8_t *states, size_t states_len,
+                          uint8_t *votes, size_t votes_len, uint8_t *network, size_t network_len, uint8_t *inboxes,
+                          size_t inboxes_len);
+
+/* The event call, all nine kinds. It judges all four tables first. Refused: 1 to 14. */
+uint32_t paxos_commit_step(uint8_t rms, uint8_t acceptors, uint8_t leaders, uint8_t *states, size_t states_len,
+                           uint8_t *votes, size_t votes_len, uint8_t *network, size_t network_len, uint8_t *inboxes,
+                           size_t inboxes_len, const uint8_t *event, size_t event_len);
+
+#ifdef __cplusplus
+}
+#endif
+
+#endif

@@ -1,0 +1,206 @@
+//! The exported functions of the static libraries, each behind a safe function on slices. Everything unsafe of this
+//! crate is here.
+//!
+//! What makes each call safe: a slice is lent as its pointer and its length. A Rust slice's pointer is never null, also
+//! where the slice is empty; its bytes are initialised; and a `&mut` slice overlaps no other slice that is lent beside
+//! it. The functions have no other condition: they are proved to end, and to read and write inside the slices only, for
+//! all bytes and all lengths. They keep no pointer, call nothing of the host and never unwind.
+
+#[cfg(any(feature = "message", feature = "rm", feature = "acceptor", feature = "leader", feature = "record"))]
+use crate::plan::Plan;
+
+#[cfg(any(feature = "rm", feature = "acceptor", feature = "leader"))]
+type RoleStep = unsafe extern "C" fn(u8, u8, u8, *mut u8, usize, *mut u8, usize, *const u8, usize) -> u32;
+
+unsafe extern "C" {
+    #[cfg(feature = "message")]
+    fn paxos_commit_read(rms: u8, acceptors: u8, leaders: u8, bytes: *const u8, len: usize) -> u64;
+
+    #[cfg(feature = "message")]
+    fn paxos_commit_write(
+        rms: u8,
+        acceptors: u8,
+        leaders: u8,
+        map: u8,
+        ins: u8,
+        acc: u8,
+        mbal: u8,
+        bal: u8,
+        val: u8,
+    ) -> u64;
+
+    #[cfg(feature = "rm")]
+    fn paxos_commit_rm_step(
+        rms: u8,
+        acceptors: u8,
+        leaders: u8,
+        states: *mut u8,
+        states_len: usize,
+        network: *mut u8,
+        network_len: usize,
+        event: *const u8,
+        event_len: usize,
+    ) -> u32;
+
+    #[cfg(feature = "acceptor")]
+    fn paxos_commit_acceptor_step(
+        rms: u8,
+        acceptors: u8,
+        leaders: u8,
+        votes: *mut u8,
+        votes_len: usize,
+        network: *mut u8,
+        network_len: usize,
+        event: *const u8,
+        event_len: usize,
+    ) -> u32;
+
+    #[cfg(feature = "leader")]
+    fn paxos_commit_leader_step(
+        rms: u8,
+        acceptors: u8,
+        leaders: u8,
+        inbox: *mut u8,
+        inbox_len: usize,
+        network: *mut u8,
+        network_len: usize,
+        event: *const u8,
+        event_len: usize,
+    ) -> u32;
+
+    #[cfg(feature = "record")]
+    fn paxos_commit_open(
+        rms: u8,
+        acceptors: u8,
+        leaders: u8,
+        states: *mut u8,
+        states_len: usize,
+        votes: *mut u8,
+        votes_len: usize,
+        network: *mut u8,
+        network_len: usize,
+        inboxes: *mut u8,
+        inboxes_len: usize,
+    ) -> u8;
+
+    #[cfg(feature = "record")]
+    fn paxos_commit_step(
+        rms: u8,
+        acceptors: u8,
+        leaders: u8,
+        states: *mut u8,
+        states_len: usize,
+        votes: *mut u8,
+        votes_len: usize,
+        network: *mut u8,
+        network_len: usize,
+        inboxes: *mut u8,
+        inboxes_len: usize,
+        event: *const u8,
+        event_len: usize,
+    ) -> u32;
+}
+
+#[cfg(feature = "message")]
+#[inline]
+pub fn read(plan: Plan, bytes: &[u8]) -> [u8; 8] {
+    // SAFETY: `bytes` is a slice.
+    unsafe { paxos_commit_read(plan.rms, plan.acceptors, plan.leaders, bytes.as_ptr(), bytes.len()) }.to_le_bytes()
+}
+
+#[cfg(feature = "message")]
+#[inline]
+pub fn write(plan: Plan, fields: [u8; 6]) -> [u8; 8] {
+    let [map, ins, acc, mbal, bal, val] = fields;
+    // SAFETY: numbers only.
+    unsafe { paxos_commit_write(plan.rms, plan.acceptors, plan.leaders, map, ins, acc, mbal, bal, val) }.to_le_bytes()
+}
+
+#[cfg(any(feature = "rm", feature = "acceptor", feature = "leader"))]
+#[inline(always)]
+fn role_step(call: RoleStep, plan: Plan, table: &mut [u8], network: &mut [u8], event: &[u8]) -> u32 {
+    // SAFETY: `call` is one of the three steps of a role below. Three slices, of which the two that may be written
+    // overlap nothing.
+    unsafe {
+        call(
+            plan.rms,
+            plan.acceptors,
+            plan.leaders,
+            table.as_mut_ptr(),
+            table.len(),
+            network.as_mut_ptr(),
+            network.len(),
+            event.as_ptr(),
+            event.len(),
+        )
+    }
+}
+
+#[cfg(feature = "rm")]
+#[inline]
+pub fn rm_step(plan: Plan, states: &mut [u8], network: &mut [u8], event: &[u8]) -> u32 {
+    role_step(paxos_commit_rm_step, plan, states, network, event)
+}
+
+#[cfg(feature = "acceptor")]
+#[inline]
+pub fn acceptor_step(plan: Plan, votes: &mut [u8], network: &mut [u8], event: &[u8]) -> u32 {
+    role_step(paxos_commit_acceptor_step, plan, votes, network, event)
+}
+
+#[cfg(feature = "leader")]
+#[inline]
+pub fn leader_step(plan: Plan, inbox: &mut [u8], network: &mut [u8], event: &[u8]) -> u32 {
+    role_step(paxos_commit_leader_step, plan, inbox, network, event)
+}
+
+#[cfg(feature = "record")]
+#[inline]
+pub fn open(plan: Plan, states: &mut [u8], votes: &mut [u8], network: &mut [u8], inboxes: &mut [u8]) -> u8 {
+    // SAFETY: four slices that overlap nothing.
+    unsafe {
+        paxos_commit_open(
+            plan.rms,
+            plan.acceptors,
+            plan.leaders,
+            states.as_mut_ptr(),
+            states.len(),
+            votes.as_mut_ptr(),
+            votes.len(),
+            network.as_mut_ptr(),
+            network.len(),
+            inboxes.as_mut_ptr(),
+            inboxes.len(),
+        )
+    }
+}
+
+#[cfg(feature = "record")]
+#[inline]
+pub fn step(
+    plan: Plan,
+    states: &mut [u8],
+    votes: &mut [u8],
+    network: &mut [u8],
+    inboxes: &mut [u8],
+    event: &[u8],
+) -> u32 {
+    // SAFETY: five slices, of which the four that may be written overlap nothing.
+    unsafe {
+        paxos_commit_step(
+            plan.rms,
+            plan.acceptors,
+            plan.leaders,
+            states.as_mut_ptr(),
+            states.len(),
+            votes.as_mut_ptr(),
+            votes.len(),
+            network.as_mut_ptr(),
+            network.len(),
+            inboxes.as_mut_ptr(),
+            inboxes.len(),
+            event.as_ptr(),
+            event.len(),
+        )
+    }
+}

@@ -1,0 +1,69 @@
+//! Safe calls of the proved Paxos Commit record.
+//!
+//! The calls are written in Rattle and proved to answer and store exactly what document 01 says. They stand in static
+//! libraries; this crate links them, gives them Rust types, and adds nothing to what they decide. Tables, events and
+//! messages are any bytes of any length: a call accepts, or answers one [`Refusal`] and changes no byte.
+//!
+//! | Feature | Static library | Calls |
+//! |---|---|---|
+//! | `message` | `libhost_message.a` | [`Message::read`], [`Message::write`], [`Fields::write`] |
+//! | `rm` | `libhost_rm.a` | [`rm_step`] |
+//! | `acceptor` | `libhost_acceptor.a` | [`acceptor_step`] |
+//! | `leader` | `libhost_leader.a` | [`leader_step`] |
+//! | `record` | `libhost_record.a` | [`open`], [`step`], and [`Record`] over them |
+//!
+//! A host of one role takes that role's feature and `message`; all five are the default. [`deliver`] is the one thing
+//! here that does work of its own: it puts a message that came from another host into a host's network table. It is
+//! plain Rust, tested and not proved.
+//!
+//! Document 01's example, an order of one weight that ends committed:
+//!
+//! ```
+//! use paxos_commit::{Answer, Ending, Event, Plan, Record, Refusal};
+//!
+//! let plan = Plan { rms: 1, acceptors: 1, leaders: 1 };
+//! let mut record = Record::fresh(plan, 1024, 1024)?;
+//! assert_eq!(record.step(Event::Prepare { rm: 0 }), Ok(Answer::Slot(0)));
+//! assert_eq!(record.step(Event::Vote { acceptor: 0, slot: 0 }), Ok(Answer::Slot(1)));
+//! assert_eq!(record.step(Event::Receipt { leader: 0, slot: 1 }), Ok(Answer::Quiet));
+//! assert_eq!(record.step(Event::Commit { leader: 0 }), Ok(Answer::Slot(2)));
+//! assert_eq!(record.step(Event::Decision { rm: 0, slot: 2 }), Ok(Answer::Quiet));
+//! assert_eq!(record.step(Event::ChooseToAbort { rm: 0 }), Err(Refusal::NotEnabled));
+//! assert_eq!(record.ending(), Ending::Committed);
+//!
+//! // Whatever the network brings:
+//! assert_eq!(record.step_bytes(b"anything"), Err(Refusal::Event));
+//! # Ok::<(), Refusal>(())
+//! ```
+//!
+//! Calls keep no state between them and may run on several threads at once, each on its own tables; `&mut` sees to that
+//! here.
+#![deny(unsafe_code)]
+#![warn(missing_docs)]
+
+mod answer;
+mod event;
+#[allow(unsafe_code)]
+mod ffi;
+mod message;
+mod plan;
+#[cfg(feature = "record")]
+mod record;
+mod refusal;
+mod roles;
+
+pub use answer::Answer;
+pub use event::Event;
+#[cfg(feature = "message")]
+pub use message::deliver;
+pub use message::{Fields, Message, Value, Vote, Written};
+pub use plan::{MAX_SLOTS, Plan, SLOT, State, slots_len};
+#[cfg(feature = "record")]
+pub use record::{Ending, Record, open, step};
+pub use refusal::Refusal;
+#[cfg(feature = "acceptor")]
+pub use roles::acceptor_step;
+#[cfg(feature = "leader")]
+pub use roles::leader_step;
+#[cfg(feature = "rm")]
+pub use roles::rm_step;

@@ -1,0 +1,234 @@
+//! Messages, their byte form, and putting a message that came from elsewhere into a network table.
+
+#[cfg(feature = "message")]
+use crate::answer::{outside, refused};
+#[cfg(feature = "message")]
+use crate::plan::{MAX_SLOTS, SLOT};
+#[cfg(feature = "message")]
+use crate::{Plan, Refusal, ffi};
+use core::ops::Deref;
+
+/// A value of an instance. As a decision, `Prepared` is Commit and `Aborted` is Abort.
+#[derive(Clone, Copy, Debug, PartialEq, Eq, Hash)]
+#[repr(u8)]
+pub enum Value {
+    /// 1: prepared; in a decision Commit.
+    Prepared = 1,
+    /// 2: aborted; in a decision Abort.
+    Aborted = 2,
+}
+
+/// The last vote of an acceptor, as a 1b reports it.
+#[derive(Clone, Copy, Debug, PartialEq, Eq, Hash)]
+pub struct Vote {
+    /// The ballot of the vote.
+    pub bal: u8,
+    /// What was voted for.
+    pub val: Value,
+}
+
+/// A message. `ins` is the instance, which is the weight's number; `acc` the acceptor; `bal` the ballot.
+#[derive(Clone, Copy, Debug, PartialEq, Eq, Hash)]
+#[allow(missing_docs)]
+pub enum Message {
+    /// 1a: a leader begins a ballot. Its ballot is from 1.
+    Phase1a { ins: u8, bal: u8 },
+    /// 1b: an acceptor promises to take part in no ballot below `mbal`, and reports its last vote.
+    Phase1b { ins: u8, acc: u8, mbal: u8, vote: Option<Vote> },
+    /// 2a: a value is proposed, at ballot 0 by the weight itself.
+    Phase2a { ins: u8, bal: u8, val: Value },
+    /// 2b: an acceptor votes.
+    Phase2b { ins: u8, acc: u8, bal: u8, val: Value },
+    /// Commit (`Prepared`) or Abort (`Aborted`).
+    Decision { val: Value },
+}
+
+/// A message as its bit map and raw fields. Fields that the map does not name are not looked at by the writer, and 0
+/// from the reader.
+#[derive(Clone, Copy, Debug, Default, PartialEq, Eq, Hash)]
+pub struct Fields {
+    /// The bit map: 09 (1a), 07 (1b without a vote), 1F (1b with a vote), 19 (2a), 1B (2b) or 10 (decision),
+    /// hexadecimal.
+    pub map: u8,
+    /// The instance, bit 0 of the map.
+    pub ins: u8,
+    /// The acceptor, bit 1.
+    pub acc: u8,
+    /// The promised ballot, bit 2.
+    pub mbal: u8,
+    /// The ballot, bit 3.
+    pub bal: u8,
+    /// The value, bit 4.
+    pub val: u8,
+}
+
+impl From<Message> for Fields {
+    fn from(message: Message) -> Fields {
+        let none = Fields::default();
+        match message {
+            Message::Phase1a { ins, bal } => Fields { map: 0x09, ins, bal, ..none },
+            Message::Phase1b { ins, acc, mbal, vote: None } => Fields { map: 0x07, ins, acc, mbal, ..none },
+            Message::Phase1b { ins, acc, mbal, vote: Some(Vote { bal, val }) } => {
+                Fields { map: 0x1F, ins, acc, mbal, bal, val: val as u8 }
+            }
+            Message::Phase2a { ins, bal, val } => Fields { map: 0x19, ins, bal, val: val as u8, ..none },
+            Message::Phase2b { ins, acc, bal, val } => Fields { map: 0x1B, ins, acc, bal, val: val as u8, ..none },
+            Message::Decision { val } => Fields { map: 0x10, val: val as u8, ..none },
+        }
+    }
+}
+
+/// The byte form of a message. It derefs to the message's bytes, two to six; as a slot it is followed by zeros.
+#[derive(Clone, Copy, Debug, PartialEq, Eq, Hash)]
+pub struct Written {
+    slot: [u8; 6],
+    len: u8,
+}
+
+impl Written {
+    /// Six bytes: the message, then zeros, as it stands in a table.
+    pub const fn slot(self) -> [u8; 6] {
+        self.slot
+    }
+}
+
+impl Deref for Written {
+    type Target = [u8];
+    fn deref(&self) -> &[u8] {
+        &self.slot[..usize::from(self.len)]
+    }
+}
+
+impl AsRef<[u8]> for Written {
+    fn as_ref(&self) -> &[u8] {
+        self
+    }
+}
+
+#[cfg(feature = "message")]
+impl Fields {
+    /// The proved reader, with raw fields. It refuses [`Refusal::Plan`], [`Map`](Refusal::Map),
+    /// [`Length`](Refusal::Length) and [`Field`](Refusal::Field).
+    #[inline]
+    pub fn read(plan: Plan, bytes: &[u8]) -> Result<Fields, Refusal> {
+        match ffi::read(plan, bytes) {
+            [0, map, ins, acc, mbal, bal, val, _] => Ok(Fields { map, ins, acc, mbal, bal, val }),
+            [number, ..] => Err(refused(number.into())),
+        }
+    }
+
+    /// The proved writer, with raw fields. It refuses [`Refusal::Plan`], [`Map`](Refusal::Map) for a map that is no
+    /// message's, and [`Field`](Refusal::Field).
+    #[inline]
+    pub fn write(self, plan: Plan) -> Result<Written, Refusal> {
+        let Fields { map, ins, acc, mbal, bal, val } = self;
+        match ffi::write(plan, [map, ins, acc, mbal, bal, val]) {
+            [0, len, slot @ ..] if len <= 6 => Ok(Written { slot, len }),
+            [number, ..] => Err(refused(number.into())),
+        }
+    }
+}
+
+#[cfg(feature = "message")]
+impl Message {
+    /// The message that these bytes are: exactly one, with nothing after it.
+    ///
+    /// ```
+    /// use paxos_commit::{Message, Plan, Refusal, Value};
+    ///
+    /// let plan = Plan { rms: 1, acceptors: 1, leaders: 1 };
+    /// assert_eq!(Message::read(plan, &[0x19, 0, 0, 1]), Ok(Message::Phase2a { ins: 0, bal: 0, val: Value::Prepared }));
+    /// assert_eq!(Message::read(plan, &[0x07, 0, 0, 1]), Ok(Message::Phase1b { ins: 0, acc: 0, mbal: 1, vote: None }));
+    /// assert_eq!(Message::read(plan, &[0x19, 0, 0]), Err(Refusal::Length));
+    /// assert_eq!(Message::read(plan, b"junk"), Err(Refusal::Map));
+    /// ```
+    pub fn read(plan: Plan, bytes: &[u8]) -> Result<Message, Refusal> {
+        let Fields { map, ins, acc, mbal, bal, val } = Fields::read(plan, bytes)?;
+        let value = || match val {
+            1 => Value::Prepared,
+            2 => Value::Aborted,
+            _ => outside(),
+        };
+        Ok(match map {
+            0x09 => Message::Phase1a { ins, bal },
+            0x07 => Message::Phase1b { ins, acc, mbal, vote: None },
+            0x1F => Message::Phase1b { ins, acc, mbal, vote: Some(Vote { bal, val: value() }) },
+            0x19 => Message::Phase2a { ins, bal, val: value() },
+            0x1B => Message::Phase2b { ins, acc, bal, val: value() },
+            0x10 => Message::Decision { val: value() },
+            _ => outside(),
+        })
+    }
+
+    /// The byte form of a message whose instance and acceptor are in the plan.
+    ///
+    /// ```
+    /// use paxos_commit::{Message, Plan, Refusal, Value};
+    ///
+    /// let plan = Plan { rms: 2, acceptors: 3, leaders: 1 };
+    /// let vote = Message::Phase2b { ins: 1, acc: 2, bal: 7, val: Value::Aborted };
+    /// let written = vote.write(plan)?;
+    /// assert_eq!(*written, [0x1B, 1, 2, 7, 2]);
+    /// assert_eq!(written.slot(), [0x1B, 1, 2, 7, 2, 0]);
+    /// assert_eq!(Message::read(plan, &written), Ok(vote));
+    /// assert_eq!(Message::Phase1a { ins: 0, bal: 0 }.write(plan), Err(Refusal::Field));
+    /// # Ok::<(), Refusal>(())
+    /// ```
+    pub fn write(self, plan: Plan) -> Result<Written, Refusal> {
+        Fields::from(self).write(plan)
+    }
+
+    /// The message in a slot of a network or an inbox; [`Refusal::Slot`] where the slot is unused or beyond the table.
+    /// It judges this slot alone, as the reader does.
+    pub fn in_slot(plan: Plan, table: &[u8], slot: u16) -> Result<Message, Refusal> {
+        let Some(bytes) = table.chunks_exact(SLOT).nth(slot.into()) else {
+            return Err(Refusal::Slot);
+        };
+        // The length by the map's bits: one byte, and one for each field.
+        let len = match bytes[0] {
+            0 if bytes.iter().all(|&byte| byte == 0) => return Err(Refusal::Slot),
+            map => (1 + map.count_ones() as usize).min(SLOT),
+        };
+        let message = Message::read(plan, &bytes[..len])?;
+        if bytes[len..].iter().any(|&byte| byte != 0) {
+            return Err(Refusal::Length);
+        }
+        Ok(message)
+    }
+}
+
+/// Puts a message that another host sent into this host's network table, unless it stands there, and answers its slot,
+/// which events of kinds 2, 3 and 4 name. It refuses what the reader refuses, [`Refusal::Lengths`] and
+/// [`Refusal::NetworkFull`], and then changes no byte. On a sound table it leaves a sound one.
+///
+/// The rehearsal needs no such thing, since all roles share one table there. It is plain Rust around the proved reader,
+/// tested and not proved.
+///
+/// ```
+/// use paxos_commit::{deliver, slots_len, Plan, Refusal};
+///
+/// let plan = Plan { rms: 1, acceptors: 3, leaders: 1 };
+/// let mut network = vec![0; slots_len(1)];
+/// assert_eq!(deliver(plan, &mut network, &[0x09, 0, 1]), Ok(0));
+/// assert_eq!(deliver(plan, &mut network, &[0x09, 0, 1]), Ok(0));
+/// assert_eq!(deliver(plan, &mut network, &[0x09, 0, 2]), Err(Refusal::NetworkFull));
+/// assert_eq!(deliver(plan, &mut network, b"?"), Err(Refusal::Map));
+/// ```
+#[cfg(feature = "message")]
+pub fn deliver(plan: Plan, network: &mut [u8], bytes: &[u8]) -> Result<u16, Refusal> {
+    Fields::read(plan, bytes)?;
+    if !network.len().is_multiple_of(SLOT) || network.len() / SLOT > MAX_SLOTS {
+        return Err(Refusal::Lengths);
+    }
+    let mut message = [0; SLOT];
+    message[..bytes.len()].copy_from_slice(bytes);
+    for (number, slot) in network.chunks_exact_mut(SLOT).enumerate() {
+        if *slot == [0; SLOT] {
+            slot.copy_from_slice(&message);
+        }
+        if *slot == message {
+            return Ok(number as u16);
+        }
+    }
+    Err(Refusal::NetworkFull)
+}

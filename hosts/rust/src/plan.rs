@@ -1,0 +1,105 @@
+//! The plan of an order, the sizes of its tables, and a weight's states.
+
+use core::ops::Range;
+
+/// The bytes of a slot.
+pub const SLOT: usize = 6;
+
+/// The most slots that the network or one inbox may have.
+pub const MAX_SLOTS: usize = 1024;
+
+/// The bytes of so many slots: the length of a network, or of one inbox.
+pub const fn slots_len(slots: usize) -> usize {
+    slots.saturating_mul(SLOT)
+}
+
+/// The counts of an order, each numbered from 0. All calls on a record are given the plan that it was opened with: the
+/// tables do not keep it. A plan out of range is no error of the caller: every call refuses it with
+/// [`Refusal::Plan`](crate::Refusal::Plan).
+#[derive(Clone, Copy, Debug, PartialEq, Eq, Hash)]
+pub struct Plan {
+    /// Resource managers (document 01: weights), 1 to 16.
+    pub rms: u8,
+    /// Acceptors, 1 to 7.
+    pub acceptors: u8,
+    /// Leaders, 1 to 4.
+    pub leaders: u8,
+}
+
+impl Plan {
+    /// The length of W, the states: a byte for each weight.
+    pub const fn states_len(self) -> usize {
+        self.rms as usize
+    }
+
+    /// The length of Q, the votes: three bytes for each instance and acceptor.
+    pub const fn votes_len(self) -> usize {
+        3 * self.rms as usize * self.acceptors as usize
+    }
+
+    /// The length of I, the inboxes, with so many slots in each.
+    pub const fn inboxes_len(self, slots: usize) -> usize {
+        slots_len(slots).saturating_mul(self.leaders as usize)
+    }
+
+    /// Where leader `leader`'s inbox stands in inboxes of this length; `None` for a number that is no leader's.
+    pub const fn inbox_range(self, inboxes_len: usize, leader: u8) -> Option<Range<usize>> {
+        if leader >= self.leaders {
+            return None;
+        }
+        let len = inboxes_len / self.leaders as usize;
+        let from = leader as usize * len;
+        Some(from..from + len)
+    }
+
+    /// Where mbal, bal and val of an acceptor for an instance stand in Q; `None` outside the plan.
+    pub const fn vote_range(self, ins: u8, acceptor: u8) -> Option<Range<usize>> {
+        if ins >= self.rms || acceptor >= self.acceptors {
+            return None;
+        }
+        let from = 3 * (ins as usize * self.acceptors as usize + acceptor as usize);
+        Some(from..from + 3)
+    }
+
+    /// The leader that owns a ballot: none owns ballot 0, which is the weights' own.
+    ///
+    /// ```
+    /// # use paxos_commit::Plan;
+    /// let plan = Plan { rms: 2, acceptors: 3, leaders: 2 };
+    /// assert_eq!(plan.owner(0), None);
+    /// assert_eq!(plan.owner(5), Some(1));
+    /// ```
+    pub const fn owner(self, ballot: u8) -> Option<u8> {
+        if ballot == 0 || self.leaders == 0 {
+            return None;
+        }
+        Some(ballot % self.leaders)
+    }
+}
+
+/// The state of a weight, a byte of W.
+#[derive(Clone, Copy, Debug, PartialEq, Eq, Hash)]
+#[repr(u8)]
+pub enum State {
+    /// It has neither prepared nor chosen to abort.
+    Working = 0,
+    /// It is ready for either decision.
+    Prepared = 1,
+    /// It is activated.
+    Committed = 2,
+    /// It is not, and never will be.
+    Aborted = 3,
+}
+
+impl State {
+    /// The state that a byte of W is; `None` for a byte above 3, which no call stores.
+    pub const fn from_byte(byte: u8) -> Option<State> {
+        match byte {
+            0 => Some(State::Working),
+            1 => Some(State::Prepared),
+            2 => Some(State::Committed),
+            3 => Some(State::Aborted),
+            _ => None,
+        }
+    }
+}

@@ -1,0 +1,167 @@
+//! The record: the four tables together, opening them, and the event call of all nine kinds.
+
+use crate::answer::refused;
+use crate::plan::slots_len;
+use crate::{Answer, Event, Plan, Refusal, ffi};
+
+/// Opens a record on lent tables: every byte becomes 0. It refuses `Plan` and `Lengths`, and looks at nothing else.
+#[inline]
+pub fn open(
+    plan: Plan,
+    states: &mut [u8],
+    votes: &mut [u8],
+    network: &mut [u8],
+    inboxes: &mut [u8],
+) -> Result<(), Refusal> {
+    match ffi::open(plan, states, votes, network, inboxes) {
+        0 => Ok(()),
+        number => Err(refused(number.into())),
+    }
+}
+
+/// The event call on lent tables. Refusals: all up to `InboxFull`.
+#[inline]
+pub fn step(
+    plan: Plan,
+    states: &mut [u8],
+    votes: &mut [u8],
+    network: &mut [u8],
+    inboxes: &mut [u8],
+    event: &[u8],
+) -> Result<Answer, Refusal> {
+    Answer::of(ffi::step(plan, states, votes, network, inboxes, event))
+}
+
+/// How an order stands.
+#[derive(Clone, Copy, Debug, PartialEq, Eq, Hash)]
+pub enum Ending {
+    /// All weights are committed.
+    Committed,
+    /// All weights are aborted.
+    Aborted,
+    /// Anything else.
+    Open,
+}
+
+/// A plan and the four tables of its record, owned (`Record<Vec<u8>>`) or borrowed (`Record<&mut [u8]>`).
+///
+/// ```
+/// use paxos_commit::{slots_len, Answer, Event, Plan, Record, Refusal};
+///
+/// let plan = Plan { rms: 3, acceptors: 3, leaders: 2 };
+/// let mut buffer = vec![0xAA; plan.states_len() + plan.votes_len() + slots_len(32) + plan.inboxes_len(16)];
+/// let (states, rest) = buffer.split_at_mut(plan.states_len());
+/// let (votes, rest) = rest.split_at_mut(plan.votes_len());
+/// let (network, inboxes) = rest.split_at_mut(slots_len(32));
+///
+/// let mut record = Record::of(plan, states, votes, network, inboxes);
+/// assert_eq!(record.step(Event::Prepare { rm: 2 }), Err(Refusal::States)); // not opened: 0xAA is no state
+/// record.open()?;
+/// assert_eq!(record.step(Event::Prepare { rm: 2 }), Ok(Answer::Slot(0)));
+/// assert_eq!(record.states(), [0, 0, 1]);
+/// # Ok::<(), Refusal>(())
+/// ```
+#[derive(Clone, Debug, PartialEq, Eq, Hash)]
+pub struct Record<T = Vec<u8>> {
+    plan: Plan,
+    states: T,
+    votes: T,
+    network: T,
+    inboxes: T,
+}
+
+impl Record {
+    /// An opened record with so many slots in the network and in each inbox, at most 1,024.
+    ///
+    /// ```
+    /// # use paxos_commit::{Plan, Record, Refusal};
+    /// assert_eq!(Record::fresh(Plan { rms: 17, acceptors: 1, leaders: 1 }, 8, 8), Err(Refusal::Plan));
+    /// assert_eq!(Record::fresh(Plan { rms: 16, acceptors: 1, leaders: 1 }, 1025, 8), Err(Refusal::Lengths));
+    /// ```
+    pub fn fresh(plan: Plan, network_slots: usize, inbox_slots: usize) -> Result<Record, Refusal> {
+        // No more than one slot over the limit, so that a count from anywhere takes no memory before it is refused.
+        let most = crate::MAX_SLOTS + 1;
+        let mut record = Record::of(
+            plan,
+            vec![0; plan.states_len()],
+            vec![0; plan.votes_len()],
+            vec![0; slots_len(network_slots.min(most))],
+            vec![0; plan.inboxes_len(inbox_slots.min(most))],
+        );
+        record.open()?;
+        Ok(record)
+    }
+}
+
+impl<T: AsRef<[u8]> + AsMut<[u8]>> Record<T> {
+    /// A record on tables as they are, for instance as they were kept on disk. Nothing is looked at here: each step
+    /// judges all four tables.
+    pub const fn of(plan: Plan, states: T, votes: T, network: T, inboxes: T) -> Record<T> {
+        Record { plan, states, votes, network, inboxes }
+    }
+
+    /// Opens the record: every byte becomes 0, or it refuses `Plan` or `Lengths`.
+    pub fn open(&mut self) -> Result<(), Refusal> {
+        open(self.plan, self.states.as_mut(), self.votes.as_mut(), self.network.as_mut(), self.inboxes.as_mut())
+    }
+
+    /// The event call.
+    #[inline]
+    pub fn step(&mut self, event: Event) -> Result<Answer, Refusal> {
+        self.step_bytes(&event.bytes())
+    }
+
+    /// The event call on any bytes.
+    #[inline]
+    pub fn step_bytes(&mut self, event: &[u8]) -> Result<Answer, Refusal> {
+        step(self.plan, self.states.as_mut(), self.votes.as_mut(), self.network.as_mut(), self.inboxes.as_mut(), event)
+    }
+
+    /// The plan that each call is given.
+    pub const fn plan(&self) -> Plan {
+        self.plan
+    }
+
+    /// W: a byte for each weight, [`State::from_byte`](crate::State::from_byte).
+    pub fn states(&self) -> &[u8] {
+        self.states.as_ref()
+    }
+
+    /// Q: mbal, bal and val for each instance and acceptor, [`Plan::vote_range`].
+    pub fn votes(&self) -> &[u8] {
+        self.votes.as_ref()
+    }
+
+    /// N: slots of six bytes.
+    pub fn network(&self) -> &[u8] {
+        self.network.as_ref()
+    }
+
+    /// I: the leaders' inboxes, one after another, [`Plan::inbox_range`].
+    pub fn inboxes(&self) -> &[u8] {
+        self.inboxes.as_ref()
+    }
+
+    /// The six bytes of a slot of N: a message followed by zeros, or six zeros; `None` beyond N.
+    pub fn slot(&self, slot: u16) -> Option<[u8; 6]> {
+        self.network().as_chunks().0.get(usize::from(slot)).copied()
+    }
+
+    /// How the order stands; open where W is not of the plan's length.
+    pub fn ending(&self) -> Ending {
+        if self.states().is_empty() || self.states().len() != self.plan.states_len() {
+            Ending::Open
+        } else if self.states().iter().all(|&state| state == crate::State::Committed as u8) {
+            Ending::Committed
+        } else if self.states().iter().all(|&state| state == crate::State::Aborted as u8) {
+            Ending::Aborted
+        } else {
+            Ending::Open
+        }
+    }
+
+    /// W, Q, N and I.
+    pub fn into_tables(self) -> [T; 4] {
+        [self.states, self.votes, self.network, self.inboxes]
+    }
+}

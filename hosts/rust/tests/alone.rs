@@ -1,0 +1,40 @@
+//! Each static library by itself: with one feature a program links that library and no other. hosts/test runs this once
+//! for each feature.
+
+#![allow(unused_imports, dead_code)]
+
+use paxos_commit::*;
+
+const ONE: Plan = Plan { rms: 1, acceptors: 1, leaders: 1 };
+
+#[cfg(feature = "message")]
+#[test]
+fn message() {
+    let message = Message::Decision { val: Value::Aborted };
+    assert_eq!(Message::read(ONE, &message.write(ONE).unwrap()), Ok(message));
+}
+
+#[cfg(feature = "rm")]
+#[test]
+fn rm() {
+    assert_eq!(rm_step(ONE, &mut [0], &mut [0; 6], &[1, 0, 0, 0]), Ok(Answer::Slot(0)));
+}
+
+#[cfg(feature = "acceptor")]
+#[test]
+fn acceptor() {
+    let mut network = [0x09, 0, 1, 0, 0, 0, 0, 0, 0, 0, 0, 0];
+    assert_eq!(acceptor_step(ONE, &mut [0; 3], &mut network, &[3, 0, 0, 0]), Ok(Answer::Slot(1)));
+}
+
+#[cfg(feature = "leader")]
+#[test]
+fn leader() {
+    assert_eq!(leader_step(ONE, &mut [], &mut [0; 6], &[5, 0, 0, 1]), Ok(Answer::Slot(0)));
+}
+
+#[cfg(feature = "record")]
+#[test]
+fn record() {
+    assert_eq!(Record::fresh(ONE, 1, 0).unwrap().step(Event::Prepare { rm: 0 }), Ok(Answer::Slot(0)));
+}

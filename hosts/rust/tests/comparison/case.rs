@@ -1,0 +1,287 @@
+//! A history of calls, the two engines that it is run on, and running it on both.
+
+use crate::reference;
+use paxos_commit::{Answer, Fields, Plan, Refusal};
+
+/// W, Q, N and I.
+pub type Tables = [Vec<u8>; 4];
+pub const W: usize = 0;
+pub const Q: usize = 1;
+pub const N: usize = 2;
+pub const I: usize = 3;
+
+#[derive(Clone, Debug, PartialEq)]
+pub enum Call {
+    Read(Vec<u8>),
+    Write([u8; 6]),
+    Open,
+    Step(Vec<u8>),
+    Rm(Vec<u8>),
+    Acceptor(Vec<u8>),
+    /// It is lent this part of I.
+    Leader(usize, usize, Vec<u8>),
+}
+
+pub const CALLS: [&str; 7] = ["read", "write", "open", "step", "rm_step", "acceptor_step", "leader_step"];
+
+impl Call {
+    pub fn number(&self) -> usize {
+        match self {
+            Call::Read(_) => 0,
+            Call::Write(_) => 1,
+            Call::Open => 2,
+            Call::Step(_) => 3,
+            Call::Rm(_) => 4,
+            Call::Acceptor(_) => 5,
+            Call::Leader(..) => 6,
+        }
+    }
+
+    pub fn event(&self) -> Option<&Vec<u8>> {
+        match self {
+            Call::Step(event) | Call::Rm(event) | Call::Acceptor(event) | Call::Leader(_, _, event) => Some(event),
+            _ => None,
+        }
+    }
+
+    pub fn event_mut(&mut self) -> Option<&mut Vec<u8>> {
+        match self {
+            Call::Step(event) | Call::Rm(event) | Call::Acceptor(event) | Call::Leader(_, _, event) => Some(event),
+            _ => None,
+        }
+    }
+}
+
+/// A call with its plan. Damage is done before it and undone after it: first new lengths of the tables, then bytes
+/// (table, place, byte).
+#[derive(Clone, Debug, PartialEq)]
+pub struct Op {
+    pub plan: Plan,
+    pub lengths: Option<[usize; 4]>,
+    pub bytes: Vec<(usize, usize, u8)>,
+    /// What the call does is undone after it too: it would damage tables that the history goes on with.
+    pub undone: bool,
+    pub call: Call,
+}
+
+impl Op {
+    pub fn plain(plan: Plan, call: Call) -> Op {
+        Op { plan, lengths: None, bytes: Vec::new(), undone: false, call }
+    }
+
+    pub fn damages(&self) -> bool {
+        self.undone || self.lengths.is_some() || !self.bytes.is_empty()
+    }
+
+    pub fn damage(&self, tables: &mut Tables) {
+        if let Some(lengths) = self.lengths {
+            for (table, length) in tables.iter_mut().zip(lengths) {
+                table.resize(length, 0);
+            }
+        }
+        for &(table, at, byte) in &self.bytes {
+            if let Some(place) = tables[table].get_mut(at) {
+                *place = byte;
+            }
+        }
+    }
+}
+
+/// What a call answered, as the number that the static library answers.
+pub type Code = u64;
+
+/// The refusal that a code is, 0 for an acceptance.
+pub fn refusal(call: &Call, code: Code) -> u8 {
+    match call {
+        Call::Read(_) | Call::Write(_) | Call::Open => code as u8,
+        _ if code >= 65536 => (code - 65536) as u8,
+        _ => 0,
+    }
+}
+
+pub trait Engine {
+    fn call(&self, plan: Plan, tables: &mut Tables, call: &Call) -> Code;
+}
+
+/// The calls of the static libraries, through this crate.
+pub struct Linked;
+
+fn code(answer: Result<Answer, Refusal>) -> Code {
+    match answer {
+        Ok(Answer::Slot(slot)) => slot.into(),
+        Ok(Answer::Quiet) => 65535,
+        Err(refusal) => 65536 + Code::from(refusal.number()),
+    }
+}
+
+impl Engine for Linked {
+    fn call(&self, plan: Plan, tables: &mut Tables, call: &Call) -> Code {
+        let [states, votes, network, inboxes] = tables;
+        match call {
+            Call::Read(bytes) => match Fields::read(plan, bytes) {
+                Ok(Fields { map, ins, acc, mbal, bal, val }) => {
+                    Code::from_le_bytes([0, map, ins, acc, mbal, bal, val, 0])
+                }
+                Err(refusal) => refusal.number().into(),
+            },
+            Call::Write([map, ins, acc, mbal, bal, val]) => {
+                let fields = Fields { map: *map, ins: *ins, acc: *acc, mbal: *mbal, bal: *bal, val: *val };
+                match fields.write(plan) {
+                    Ok(written) => written_code(written.slot(), written.len()),
+                    Err(refusal) => refusal.number().into(),
+                }
+            }
+            Call::Open => match paxos_commit::open(plan, states, votes, network, inboxes) {
+                Ok(()) => 0,
+                Err(refusal) => refusal.number().into(),
+            },
+            Call::Step(event) => code(paxos_commit::step(plan, states, votes, network, inboxes, event)),
+            Call::Rm(event) => code(paxos_commit::rm_step(plan, states, network, event)),
+            Call::Acceptor(event) => code(paxos_commit::acceptor_step(plan, votes, network, event)),
+            Call::Leader(from, to, event) => {
+                code(paxos_commit::leader_step(plan, part(inboxes, *from, *to), network, event))
+            }
+        }
+    }
+}
+
+/// The part of I that is lent; where I was shortened, what is left of it.
+fn part(inboxes: &mut [u8], from: usize, to: usize) -> &mut [u8] {
+    let to = to.min(inboxes.len());
+    &mut inboxes[from.min(to)..to]
+}
+
+fn written_code(slot: [u8; 6], len: usize) -> Code {
+    let [a, b, c, d, e, f] = slot;
+    Code::from_le_bytes([0, len as u8, a, b, c, d, e, f])
+}
+
+/// The hand-written Rust.
+pub struct Reference;
+
+fn reference_code(answer: Result<reference::Sent, u8>) -> Code {
+    match answer {
+        Ok(reference::Sent::Slot(slot)) => slot as Code,
+        Ok(reference::Sent::Quiet) => 65535,
+        Err(number) => 65536 + Code::from(number),
+    }
+}
+
+impl Engine for Reference {
+    fn call(&self, plan: Plan, tables: &mut Tables, call: &Call) -> Code {
+        use reference::{Message, Vote};
+        let plan = reference::Plan { rms: plan.rms, acceptors: plan.acceptors, leaders: plan.leaders };
+        let [states, votes, network, inboxes] = tables;
+        match call {
+            Call::Read(bytes) => match reference::read(plan, bytes) {
+                Ok(message) => Code::from_le_bytes(match message {
+                    Message::Phase1a { ins, bal } => [0, 0x09, ins, 0, 0, bal, 0, 0],
+                    Message::Phase1b { ins, acc, mbal, vote: None } => [0, 0x07, ins, acc, mbal, 0, 0, 0],
+                    Message::Phase1b { ins, acc, mbal, vote: Some(Vote { bal, val }) } => {
+                        [0, 0x1F, ins, acc, mbal, bal, val, 0]
+                    }
+                    Message::Phase2a { ins, bal, val } => [0, 0x19, ins, 0, 0, bal, val, 0],
+                    Message::Phase2b { ins, acc, bal, val } => [0, 0x1B, ins, acc, 0, bal, val, 0],
+                    Message::Decision { val } => [0, 0x10, 0, 0, 0, 0, val, 0],
+                }),
+                Err(number) => number.into(),
+            },
+            Call::Write([map, ins, acc, mbal, bal, val]) => {
+                let (ins, acc, mbal, bal, val) = (*ins, *acc, *mbal, *bal, *val);
+                let message = match map {
+                    0x09 => Some(Message::Phase1a { ins, bal }),
+                    0x07 => Some(Message::Phase1b { ins, acc, mbal, vote: None }),
+                    0x1F => Some(Message::Phase1b { ins, acc, mbal, vote: Some(Vote { bal, val }) }),
+                    0x19 => Some(Message::Phase2a { ins, bal, val }),
+                    0x1B => Some(Message::Phase2b { ins, acc, bal, val }),
+                    0x10 => Some(Message::Decision { val }),
+                    _ => None,
+                };
+                // Of a map that is no message's only the plan is asked, of a message that is in every plan; then the
+                // number is 15.
+                let asked = message.unwrap_or(Message::Decision { val: 1 });
+                match (reference::write(plan, asked), message) {
+                    ((0, _, _), None) => 15,
+                    ((0, slot, len), Some(_)) => written_code(slot, len),
+                    ((number, slot, len), _) => {
+                        assert_eq!((slot, len), ([0; 6], 0));
+                        number.into()
+                    }
+                }
+            }
+            Call::Open => match reference::open(plan, states, votes, network, inboxes) {
+                Ok(()) => 0,
+                Err(number) => number.into(),
+            },
+            Call::Step(event) => reference_code(reference::event(plan, states, votes, network, inboxes, event)),
+            Call::Rm(event) => reference_code(reference::rm_step(plan, states, network, event)),
+            Call::Acceptor(event) => reference_code(reference::acceptor_step(plan, votes, network, event)),
+            Call::Leader(from, to, event) => {
+                reference_code(reference::leader_step(plan, part(inboxes, *from, *to), network, event))
+            }
+        }
+    }
+}
+
+/// Tables, and calls on them one after another.
+#[derive(Clone, Debug)]
+pub struct Case {
+    pub tables: Tables,
+    pub ops: Vec<Op>,
+}
+
+/// A call that did not do the same on both engines.
+#[derive(Clone, Debug)]
+pub struct Mismatch {
+    /// The call, by its number in the history.
+    pub at: usize,
+    /// The tables as the call was lent them.
+    pub lent: Tables,
+    pub answers: [Code; 2],
+    pub left: [Tables; 2],
+}
+
+/// Two engines, each with its tables.
+pub struct Pair<'a> {
+    pub engines: [&'a dyn Engine; 2],
+    pub tables: [Tables; 2],
+    lent: Tables,
+    saved: Tables,
+}
+
+impl<'a> Pair<'a> {
+    pub fn new(engines: [&'a dyn Engine; 2], tables: &Tables) -> Pair<'a> {
+        Pair { engines, tables: [tables.clone(), tables.clone()], lent: tables.clone(), saved: tables.clone() }
+    }
+
+    /// One call on both: its answer, the same from both, or how they differ. A refusal must change no byte.
+    pub fn run(&mut self, op: &Op, at: usize) -> Result<Code, Box<Mismatch>> {
+        if op.damages() {
+            self.saved.clone_from(&self.tables[0]);
+            for tables in &mut self.tables {
+                op.damage(tables);
+            }
+        }
+        self.lent.clone_from(&self.tables[0]);
+        let [first, second] = &mut self.tables;
+        let answers = [self.engines[0].call(op.plan, first, &op.call), self.engines[1].call(op.plan, second, &op.call)];
+        let refused = refusal(&op.call, answers[0]) != 0;
+        if answers[0] != answers[1] || self.tables[0] != self.tables[1] || refused && self.tables[0] != self.lent {
+            return Err(Box::new(Mismatch { at, lent: self.lent.clone(), answers, left: self.tables.clone() }));
+        }
+        if op.damages() {
+            for tables in &mut self.tables {
+                tables.clone_from(&self.saved);
+            }
+        }
+        Ok(answers[0])
+    }
+}
+
+impl Case {
+    /// The first mismatch, if there is one.
+    pub fn run(&self, engines: [&dyn Engine; 2]) -> Option<Box<Mismatch>> {
+        let mut pair = Pair::new(engines, &self.tables);
+        self.ops.iter().enumerate().find_map(|(at, op)| pair.run(op, at).err())
+    }
+}

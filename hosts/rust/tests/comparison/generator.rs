@@ -1,0 +1,430 @@
+//! Random histories: plans of all sizes, fresh and used and full tables, events that are mostly enabled, damage of all
+//! sorts.
+
+use crate::case::{Call, I, N, Op, Q, Tables, W};
+use paxos_commit::{Event, MAX_SLOTS, Plan};
+use std::collections::VecDeque;
+
+/// A small generator of random numbers (splitmix64), so that a seed gives the same histories everywhere.
+pub struct Random(pub u64);
+
+impl Random {
+    pub fn next(&mut self) -> u64 {
+        self.0 = self.0.wrapping_add(0x9E37_79B9_7F4A_7C15);
+        let mut z = self.0;
+        z = (z ^ (z >> 30)).wrapping_mul(0xBF58_476D_1CE4_E5B9);
+        z = (z ^ (z >> 27)).wrapping_mul(0x94D0_49BB_1331_11EB);
+        z ^ (z >> 31)
+    }
+
+    pub fn below(&mut self, bound: usize) -> usize {
+        (self.next() % bound.max(1) as u64) as usize
+    }
+
+    pub fn byte(&mut self, bound: u8) -> u8 {
+        self.below(bound.into()) as u8
+    }
+
+    /// So many times of a hundred.
+    pub fn percent(&mut self, times: usize) -> bool {
+        self.below(100) < times
+    }
+
+    pub fn of<T: Copy>(&mut self, list: &[T]) -> T {
+        list[self.below(list.len())]
+    }
+}
+
+/// What a round of the protocol wants to happen next; a message is looked up in N when its turn comes, and skipped
+/// where it is not there.
+#[derive(Clone, Copy, Debug)]
+enum Want {
+    Make(Event),
+    /// A message that begins so, for an event of this kind and process.
+    Take(u8, u8, [u8; 4], usize),
+}
+
+pub struct Generator {
+    pub random: Random,
+    pub plan: Plan,
+    /// Calls that this history has still to make.
+    pub left: usize,
+    wants: VecDeque<Want>,
+}
+
+fn used(table: &[u8]) -> usize {
+    table.chunks_exact(6).take_while(|slot| slot[0] != 0).count()
+}
+
+impl Generator {
+    pub fn new(seed: u64) -> Generator {
+        let plan = Plan { rms: 1, acceptors: 1, leaders: 1 };
+        Generator { random: Random(seed), plan, left: 0, wants: VecDeque::new() }
+    }
+
+    /// The tables of a new history.
+    pub fn start(&mut self) -> Tables {
+        let random = &mut self.random;
+        self.plan = match random.below(20) {
+            0 | 1 => Plan { rms: 16, acceptors: 7, leaders: 4 },
+            2..=13 => Plan { rms: 1 + random.byte(3), acceptors: 1 + random.byte(5), leaders: 1 + random.byte(2) },
+            _ => Plan { rms: 1 + random.byte(16), acceptors: 1 + random.byte(7), leaders: 1 + random.byte(4) },
+        };
+        self.wants.clear();
+        let sizes = [0, 1, 2, 3, 5, 8, 16, 16, 40, 40, 100, 100, 300];
+        let mut size = || if random.percent(6) { MAX_SLOTS } else { random.of(&sizes) };
+        let (network, inbox) = (size(), size());
+        self.left = 40 + self.random.below(if network > 100 { 3000 } else { 600 });
+        let plan = self.plan;
+        let mut tables = [
+            vec![0; plan.states_len()],
+            vec![0; plan.votes_len()],
+            vec![0; 6 * network],
+            vec![0; plan.inboxes_len(inbox)],
+        ];
+        if self.random.percent(50) {
+            return tables;
+        }
+        let full = self.random.percent(30);
+        self.fill(&mut tables[N], full);
+        if inbox > 0 {
+            for part in tables[I].chunks_exact_mut(6 * inbox) {
+                self.fill(part, full);
+            }
+        }
+        for state in &mut tables[W] {
+            *state = self.random.byte(4);
+        }
+        for vote in tables[Q].chunks_exact_mut(3) {
+            let val = self.random.byte(3);
+            vote.copy_from_slice(&[self.ballot(), if val == 0 { 0 } else { self.ballot() }, val]);
+        }
+        tables
+    }
+
+    /// Mixed messages in the first slots.
+    fn fill(&mut self, table: &mut [u8], full: bool) {
+        let slots = table.len() / 6;
+        let count = if full { slots - self.random.below(2).min(slots) } else { self.random.below(slots + 1) };
+        for slot in table.chunks_exact_mut(6).take(count) {
+            let message = self.message();
+            slot[..message.len()].copy_from_slice(&message);
+        }
+    }
+
+    fn ballot(&mut self) -> u8 {
+        match self.random.below(20) {
+            0 => self.random.byte(255),
+            1 => 255,
+            _ => self.random.byte(7),
+        }
+    }
+
+    /// A message of the plan.
+    fn message(&mut self) -> Vec<u8> {
+        let ins = self.random.byte(self.plan.rms);
+        let acc = self.random.byte(self.plan.acceptors);
+        let (mbal, bal, val) = (self.ballot(), self.ballot(), 1 + self.random.byte(2));
+        match self.random.below(8) {
+            0 => vec![0x09, ins, bal.max(1)],
+            1 => vec![0x07, ins, acc, mbal],
+            2 | 3 => vec![0x1F, ins, acc, mbal, bal, val],
+            4 => vec![0x19, ins, bal, val],
+            5 | 6 => vec![0x1B, ins, acc, bal, val],
+            _ => vec![0x10, val],
+        }
+    }
+
+    /// The next call of the history, which stands at these tables.
+    pub fn next(&mut self, tables: &Tables) -> Op {
+        self.left -= 1;
+        let mut op = Op::plain(self.plan, Call::Open);
+        op.call = match self.random.below(400) {
+            0..=15 => Call::Read(self.slice()),
+            16..=31 => Call::Write(self.fields()),
+            32 => Call::Open,
+            41..=43 => {
+                // Opening is mostly tried on tables that it leaves alone, so that histories get long.
+                self.damage(&mut op, tables, true);
+                Call::Open
+            }
+            33..=40 => {
+                op.undone = true;
+                self.part(tables)
+            }
+            _ => self.step(tables),
+        };
+        if self.random.percent(9) {
+            let several = if self.random.percent(25) { 3 } else { 1 };
+            for _ in 0..several {
+                self.damage(&mut op, tables, false);
+            }
+        }
+        op
+    }
+
+    /// Another plan, other lengths, or other bytes.
+    fn damage(&mut self, op: &mut Op, tables: &Tables, refused: bool) {
+        let random = &mut self.random;
+        match random.below(if refused { 7 } else { 20 }) {
+            0 | 1 => {
+                let place = random.below(3);
+                let bad = [[0, 17, 255], [0, 8, 200], [0, 5, 255]][place][random.below(3)];
+                match place {
+                    0 => op.plan.rms = bad,
+                    1 => op.plan.acceptors = bad,
+                    _ => op.plan.leaders = bad,
+                }
+            }
+            2 => {
+                op.plan = Plan { rms: 1 + random.byte(16), acceptors: 1 + random.byte(7), leaders: 1 + random.byte(4) };
+            }
+            3..=6 => {
+                let mut lengths = op.lengths.unwrap_or([0, 1, 2, 3].map(|table: usize| tables[table].len()));
+                let table = random.below(4);
+                let leaders = usize::from(self.plan.leaders);
+                let over = 6 * (MAX_SLOTS + 1) * if table == I { leaders } else { 1 };
+                lengths[table] = match random.below(8) {
+                    0 => 0,
+                    1 => over,
+                    2 => over - 6,
+                    3 => lengths[table] + 6,
+                    4 => lengths[table].saturating_sub(6),
+                    5 => lengths[table] + 6 * leaders,
+                    6 => lengths[table].saturating_sub(1),
+                    _ => lengths[table] + 1 + random.below(6),
+                };
+                op.lengths = Some(lengths);
+            }
+            _ => {
+                let table = random.of(&[W, Q, N, N, N, I, I, I]);
+                let bytes = &tables[table];
+                if bytes.is_empty() {
+                    return;
+                }
+                // A place in a used slot or just after them, or anywhere.
+                let near = table == N && random.percent(70);
+                let at =
+                    if near { random.below((6 * used(bytes) + 6).min(bytes.len())) } else { random.below(bytes.len()) };
+                let byte = match random.below(4) {
+                    0 => 0,
+                    1 => random.byte(5),
+                    2 => random.of(&[0x09, 0x07, 0x1F, 0x19, 0x1B, 0x10, 0x20, 0xFF]),
+                    _ => random.next() as u8,
+                };
+                if random.percent(15) {
+                    let slot = at - at % 6;
+                    op.bytes.extend((slot..(slot + 6).min(bytes.len())).map(|at| (table, at, 0)));
+                }
+                op.bytes.push((table, at, byte));
+            }
+        }
+    }
+
+    /// What the reader is given.
+    fn slice(&mut self) -> Vec<u8> {
+        let mut bytes = self.message();
+        match self.random.below(10) {
+            0 => (0..self.random.below(9)).map(|_| self.random.next() as u8).collect(),
+            1 => {
+                bytes.pop();
+                bytes
+            }
+            2 => {
+                bytes.push(0);
+                bytes
+            }
+            3 => {
+                bytes[0] = self.random.next() as u8;
+                bytes
+            }
+            4 => {
+                bytes[0] = self.random.byte(40);
+                bytes
+            }
+            5 | 6 => {
+                let at = self.random.below(bytes.len());
+                bytes[at] = self.random.of(&[0, 1, 2, 3, 6, 7, 15, 16, 255]);
+                bytes
+            }
+            _ => bytes,
+        }
+    }
+
+    /// What the writer is given.
+    fn fields(&mut self) -> [u8; 6] {
+        let random = &mut self.random;
+        let map =
+            if random.percent(85) { random.of(&[0x09, 0x07, 0x1F, 0x19, 0x1B, 0x10]) } else { random.next() as u8 };
+        let some = |bound: u8, random: &mut Random| match random.below(10) {
+            0 => bound,
+            1 => random.next() as u8,
+            _ => random.byte(bound),
+        };
+        let ins = some(self.plan.rms, random);
+        let acc = some(self.plan.acceptors, random);
+        let val = if random.percent(85) { 1 + random.byte(2) } else { random.byte(5) };
+        [map, ins, acc, self.ballot(), self.ballot(), val]
+    }
+
+    /// A step: mostly an event that may be enabled, by the event call or by its role's own.
+    fn step(&mut self, tables: &Tables) -> Call {
+        let event = match self.wanted(tables) {
+            Some(event) => event.to_vec(),
+            None if self.random.percent(5) => self.junk(),
+            None => self.event(tables).to_vec(),
+        };
+        let inboxes = tables[I].len();
+        match (self.random.below(40), event.first()) {
+            (0, _) => Call::Rm(event),
+            (1, _) => Call::Acceptor(event),
+            (2..=19, Some(0..=2)) => Call::Rm(event),
+            (2..=19, Some(3)) => Call::Acceptor(event),
+            (2..=19, Some(4..=8)) => {
+                let who = event.get(1).copied().unwrap_or(0) % self.plan.leaders;
+                let part = self.plan.inbox_range(inboxes, who).unwrap_or(0..inboxes);
+                Call::Leader(part.start, part.end, event)
+            }
+            _ => Call::Step(event),
+        }
+    }
+
+    /// A leader's own call on a part of I that is no leader's, or another leader's.
+    fn part(&mut self, tables: &Tables) -> Call {
+        let event = self.event(tables).to_vec();
+        let from = self.random.below(tables[I].len() + 1);
+        let to = from + self.random.below(tables[I].len() + 1 - from);
+        if self.random.percent(70) {
+            Call::Leader(from - from % 6, to - to % 6, event)
+        } else {
+            Call::Leader(from, to, event)
+        }
+    }
+
+    /// Bytes that are mostly no event.
+    fn junk(&mut self) -> Vec<u8> {
+        let random = &mut self.random;
+        match random.below(4) {
+            0 => (0..random.below(7)).map(|_| random.byte(10)).collect(),
+            1 => vec![9 + random.byte(247), random.byte(4), 0, 0],
+            2 => vec![random.byte(9), random.of(&[self.plan.rms, self.plan.acceptors, self.plan.leaders, 255]), 0, 0],
+            _ => vec![random.byte(9), random.byte(4), random.byte(20), random.byte(20)],
+        }
+    }
+
+    /// A slot of N, mostly a used one with one of these maps.
+    fn slot(&mut self, network: &[u8], maps: &[u8]) -> [u8; 2] {
+        let used = used(network);
+        if self.random.percent(4) {
+            return [self.random.byte(8), self.random.next() as u8];
+        }
+        let mut slot = self.random.below(used + 1);
+        for _ in 0..8 {
+            if network.get(6 * slot).is_some_and(|map| maps.contains(map)) || self.random.percent(4) {
+                break;
+            }
+            slot = self.random.below(used + 1);
+        }
+        (slot as u16).to_be_bytes()
+    }
+
+    /// A ballot, mostly one that this leader owns.
+    fn owned(&mut self, leader: u8) -> u8 {
+        if self.random.percent(6) {
+            return self.ballot();
+        }
+        leader + self.plan.leaders * self.random.byte(3)
+    }
+
+    fn event(&mut self, tables: &Tables) -> [u8; 4] {
+        if self.wants.is_empty() && self.random.percent(3) {
+            self.round();
+        }
+        let kind = self.random.of(&[0, 1, 2, 2, 3, 3, 3, 4, 4, 4, 4, 5, 6, 6, 7, 8]);
+        let plan = self.plan;
+        let who = self.random.byte([plan.rms, plan.acceptors, plan.leaders][[0, 0, 0, 1, 2, 2, 2, 2, 2][kind]]);
+        let maps: &[u8] = [&[0x10][..], &[0x09, 0x19], &[0x07, 0x1F, 0x1B]][[0, 0, 0, 1, 2, 0, 0, 0, 0][kind]];
+        let [high, low] = match kind {
+            2..=4 => self.slot(&tables[N], maps),
+            5 => [self.random.byte(plan.rms), self.owned(who)],
+            6 => {
+                // A 1b of its inbox says for what it may propose.
+                let inbox = &tables[I][plan.inbox_range(tables[I].len(), who).unwrap_or(0..0)];
+                let seen = used(inbox);
+                let slot = (0..6)
+                    .map(|_| self.random.below(seen + 1))
+                    .find(|&slot| matches!(inbox.get(6 * slot), Some(0x07 | 0x1F)));
+                match slot {
+                    Some(slot) if self.random.percent(85) => [inbox[6 * slot + 1], inbox[6 * slot + 3]],
+                    _ => [self.random.byte(plan.rms), self.owned(who)],
+                }
+            }
+            _ => [0, 0],
+        };
+        [kind as u8, who, high, low]
+    }
+
+    /// The next event of a round, if one is on.
+    fn wanted(&mut self, tables: &Tables) -> Option<[u8; 4]> {
+        if self.wants.is_empty() || self.random.percent(20) {
+            return None;
+        }
+        while let Some(want) = self.wants.pop_front() {
+            match want {
+                Want::Make(event) => return Some(event.bytes()),
+                Want::Take(kind, who, begins, length) => {
+                    let found = tables[N].chunks_exact(6).position(|slot| slot[..length] == begins[..length]);
+                    if let Some(slot) = found {
+                        let [high, low] = (slot as u16).to_be_bytes();
+                        return Some([kind, who, high, low]);
+                    }
+                }
+            }
+        }
+        None
+    }
+
+    /// A round: the weights' own ballot for all instances, or a leader's for one; then the decision, and every weight
+    /// takes it.
+    fn round(&mut self) {
+        let plan = self.plan;
+        let leader = self.random.byte(plan.leaders);
+        let missing = if self.random.percent(60) { 0 } else { self.random.byte(plan.acceptors) };
+        let all = self.random.percent(60);
+        let instances = if all {
+            0..plan.rms
+        } else {
+            let ins = self.random.byte(plan.rms);
+            ins..ins + 1
+        };
+        let ballot = if self.random.percent(50) { 0 } else { self.owned(leader) };
+        let wants = &mut self.wants;
+        for ins in instances {
+            if ballot == 0 {
+                let rm = ins;
+                wants.push_back(Want::Make(if self.random.percent(92) {
+                    Event::Prepare { rm }
+                } else {
+                    Event::ChooseToAbort { rm }
+                }));
+            } else {
+                wants.push_back(Want::Make(Event::Phase1a { leader, ins, bal: ballot }));
+                for acc in missing..plan.acceptors {
+                    wants.push_back(Want::Take(3, acc, [0x09, ins, ballot, 0], 3));
+                    wants.push_back(Want::Take(4, leader, [0x07, ins, acc, ballot], 4));
+                    wants.push_back(Want::Take(4, leader, [0x1F, ins, acc, ballot], 4));
+                }
+                wants.push_back(Want::Make(Event::Phase2a { leader, ins, bal: ballot }));
+            }
+            for acc in missing..plan.acceptors {
+                wants.push_back(Want::Take(3, acc, [0x19, ins, ballot, 0], 3));
+                wants.push_back(Want::Take(4, leader, [0x1B, ins, acc, ballot], 4));
+            }
+        }
+        wants.push_back(Want::Make(Event::Commit { leader }));
+        wants.push_back(Want::Make(Event::Abort { leader }));
+        for rm in 0..plan.rms {
+            wants.push_back(Want::Take(2, rm, [0x10, 0, 0, 0], 1));
+        }
+    }
+}

@@ -1,0 +1,229 @@
+//! Message bytes: a bit map, then one byte for each field whose bit stands.
+
+use super::{Plan, refusal};
+
+/// A message followed by zeros, or six zeros.
+pub(crate) type Slot = [u8; 6];
+
+pub(crate) const PREPARED: u8 = 1;
+pub(crate) const ABORTED: u8 = 2;
+
+const INS: u8 = 1;
+const ACC: u8 = 2;
+const VAL: u8 = 16;
+
+pub(crate) const MAP_1A: u8 = 0x09;
+pub(crate) const MAP_1B: u8 = 0x07;
+pub(crate) const MAP_1B_VOTE: u8 = 0x1F;
+pub(crate) const MAP_2A: u8 = 0x19;
+pub(crate) const MAP_2B: u8 = 0x1B;
+pub(crate) const MAP_DECISION: u8 = 0x10;
+
+/// The length of a message by its map, 0 for an unknown map.
+pub const LENGTHS: [u8; 32] = {
+    let mut lengths = [0; 32];
+    lengths[MAP_1A as usize] = 3;
+    lengths[MAP_1B as usize] = 4;
+    lengths[MAP_1B_VOTE as usize] = 6;
+    lengths[MAP_2A as usize] = 4;
+    lengths[MAP_2B as usize] = 5;
+    lengths[MAP_DECISION as usize] = 2;
+    lengths
+};
+
+/// A message; its fields are raw bytes.
+#[derive(Clone, Copy, Debug, PartialEq, Eq)]
+pub enum Message {
+    Phase1a { ins: u8, bal: u8 },
+    Phase1b { ins: u8, acc: u8, mbal: u8, vote: Option<Vote> },
+    Phase2a { ins: u8, bal: u8, val: u8 },
+    Phase2b { ins: u8, acc: u8, bal: u8, val: u8 },
+    Decision { val: u8 },
+}
+
+/// The vote that a 1b reports.
+#[derive(Clone, Copy, Debug, PartialEq, Eq)]
+pub struct Vote {
+    pub bal: u8,
+    pub val: u8,
+}
+
+impl Message {
+    /// Whether all fields are in range.
+    fn allowed(self, plan: Plan) -> bool {
+        let value = |val| val == PREPARED || val == ABORTED;
+        match self {
+            Message::Phase1a { ins, bal } => ins < plan.rms && bal != 0,
+            Message::Phase1b { ins, acc, vote, .. } => {
+                ins < plan.rms && acc < plan.acceptors && vote.is_none_or(|vote| value(vote.val))
+            }
+            Message::Phase2a { ins, val, .. } => ins < plan.rms && value(val),
+            Message::Phase2b { ins, acc, val, .. } => ins < plan.rms && acc < plan.acceptors && value(val),
+            Message::Decision { val } => value(val),
+        }
+    }
+
+    /// The message's slot; no field is judged.
+    pub(crate) fn slot(self) -> Slot {
+        match self {
+            Message::Phase1a { ins, bal } => [MAP_1A, ins, bal, 0, 0, 0],
+            Message::Phase1b { ins, acc, mbal, vote: None } => [MAP_1B, ins, acc, mbal, 0, 0],
+            Message::Phase1b { ins, acc, mbal, vote: Some(Vote { bal, val }) } => {
+                [MAP_1B_VOTE, ins, acc, mbal, bal, val]
+            }
+            Message::Phase2a { ins, bal, val } => [MAP_2A, ins, bal, val, 0, 0],
+            Message::Phase2b { ins, acc, bal, val } => [MAP_2B, ins, acc, bal, val, 0],
+            Message::Decision { val } => [MAP_DECISION, val, 0, 0, 0, 0],
+        }
+    }
+
+    /// The message of a slot that has been found readable.
+    pub(crate) fn of(slot: &Slot) -> Message {
+        match *slot {
+            [MAP_1A, ins, bal, ..] => Message::Phase1a { ins, bal },
+            [MAP_1B, ins, acc, mbal, ..] => Message::Phase1b { ins, acc, mbal, vote: None },
+            [MAP_1B_VOTE, ins, acc, mbal, bal, val] => {
+                Message::Phase1b { ins, acc, mbal, vote: Some(Vote { bal, val }) }
+            }
+            [MAP_2A, ins, bal, val, ..] => Message::Phase2a { ins, bal, val },
+            [MAP_2B, ins, acc, bal, val, _] => Message::Phase2b { ins, acc, bal, val },
+            [_, val, ..] => Message::Decision { val },
+        }
+    }
+}
+
+/// Reads a slice that is exactly one message; refuses 1, 15, 16 and 17.
+pub fn read(plan: Plan, bytes: &[u8]) -> Result<Message, u8> {
+    plan.check()?;
+    let message = match *bytes {
+        [MAP_1A, ins, bal] => Message::Phase1a { ins, bal },
+        [MAP_1B, ins, acc, mbal] => Message::Phase1b { ins, acc, mbal, vote: None },
+        [MAP_1B_VOTE, ins, acc, mbal, bal, val] => Message::Phase1b { ins, acc, mbal, vote: Some(Vote { bal, val }) },
+        [MAP_2A, ins, bal, val] => Message::Phase2a { ins, bal, val },
+        [MAP_2B, ins, acc, bal, val] => Message::Phase2b { ins, acc, bal, val },
+        [MAP_DECISION, val] => Message::Decision { val },
+        [map, ..] if LENGTHS.get(usize::from(map)).is_some_and(|&length| length != 0) => {
+            return Err(refusal::SIZE);
+        }
+        _ => return Err(refusal::MAP),
+    };
+    if message.allowed(plan) { Ok(message) } else { Err(refusal::FIELD) }
+}
+
+/// Writes a message: 0, its six bytes and its length; or 1 or 17, six zeros
+/// and 0.
+pub fn write(plan: Plan, message: Message) -> (u8, [u8; 6], usize) {
+    if let Err(number) = plan.check() {
+        return (number, [0; 6], 0);
+    }
+    if !message.allowed(plan) {
+        return (refusal::FIELD, [0; 6], 0);
+    }
+    let slot = message.slot();
+    (0, slot, usize::from(LENGTHS[usize::from(slot[0])]))
+}
+
+/// A slot as a number, its first byte the lowest.
+#[inline]
+pub(crate) fn word(slot: &Slot) -> u64 {
+    let [a, b, c, d, e, f] = *slot;
+    u64::from_le_bytes([a, b, c, d, e, f, 0, 0])
+}
+
+/// The allowed bytes of a slot, by the five bits of its map and under one
+/// plan: the least value of each byte, and how far it may exceed that. Slots
+/// are judged as eight bytes, one load each; the last two are not the slot's
+/// and may be anything.
+#[derive(Clone, Copy)]
+pub(crate) struct Rules {
+    least: [[u8; 8]; 32],
+    span: [[u8; 8]; 32],
+}
+
+/// The rules for one weight and one acceptor.
+static LEAST_PLAN: Rules = {
+    let mut rules = Rules { least: [[0; 8]; 32], span: [[0, 0, 0, 0, 0, 0, 255, 255]; 32] };
+    let mut map = 0;
+    while map < 32 {
+        let (least, span) = (&mut rules.least[map as usize], &mut rules.span[map as usize]);
+        let length = LENGTHS[map as usize] as usize;
+        // The map itself, all eight bits. A byte whose five bits are an
+        // unknown map is never one more than that.
+        least[0] = if length == 0 { map + 1 } else { map };
+        let mut at = 1 + (map & INS != 0) as usize + (map & ACC != 0) as usize;
+        while at < length {
+            let last = at == length - 1;
+            (least[at], span[at]) = if last && map & VAL != 0 {
+                (1, 1)
+            } else if last && map == MAP_1A {
+                (1, 254)
+            } else {
+                (0, 255)
+            };
+            at += 1;
+        }
+        map += 1;
+    }
+    rules
+};
+
+impl Rules {
+    pub fn new(plan: Plan) -> Rules {
+        let mut rules = LEAST_PLAN;
+        for map in [MAP_1A, MAP_1B, MAP_1B_VOTE, MAP_2A, MAP_2B] {
+            rules.span[usize::from(map)][1] = plan.rms - 1;
+        }
+        for map in [MAP_1B, MAP_1B_VOTE, MAP_2B] {
+            rules.span[usize::from(map)][2] = plan.acceptors - 1;
+        }
+        rules
+    }
+
+    /// Whether each slot is a readable message with zeros after it. Slots
+    /// come with any two bytes after them. There is no branch, and all bytes
+    /// of all slots take the same steps, so that it vectorises.
+    #[inline(always)]
+    pub fn readable<const SLOTS: usize>(&self, words: [u64; SLOTS]) -> bool {
+        let least = words.map(|word| self.least[(word & 31) as usize]);
+        let span = words.map(|word| self.span[(word & 31) as usize]);
+        let bytes = words.map(u64::to_le_bytes);
+        let ranges = least.as_flattened().iter().zip(span.as_flattened());
+        let excess = bytes
+            .as_flattened()
+            .iter()
+            .zip(ranges)
+            .fold(0, |excess, (byte, (&least, &span))| excess | byte.wrapping_sub(least).saturating_sub(span));
+        excess == 0
+    }
+}
+
+#[cfg(test)]
+mod tests {
+    use super::*;
+
+    /// The rules judge a slot as the reader does, with zeros after it.
+    #[test]
+    fn rules_are_the_reader() {
+        let bytes = [0, 1, 2, 3, 6, 7, 8, 15, 16, 17, 127, 128, 129, 254, 255];
+        for plan in [(1, 1), (2, 7), (16, 7), (16, 1), (7, 3)] {
+            let plan = Plan { rms: plan.0, acceptors: plan.1, leaders: 1 };
+            let rules = Rules::new(plan);
+            for map in 0..=255u8 {
+                let known = LENGTHS.get(usize::from(map)).is_some_and(|&length| length != 0);
+                for code in 0..bytes.len().pow(if known { 5 } else { 2 }) {
+                    let mut slot = [map; 6];
+                    let mut code = code;
+                    for byte in &mut slot[1..] {
+                        *byte = bytes[code % bytes.len()];
+                        code /= bytes.len();
+                    }
+                    let length = LENGTHS.get(usize::from(map)).map_or(0, |&length| usize::from(length));
+                    let literal = read(plan, &slot[..length]).is_ok() && slot[length..] == [0; 6][length..];
+                    assert_eq!(rules.readable([word(&slot)]), literal, "{slot:02X?} {plan:?}");
+                    // The two bytes after a slot change nothing.
+                    assert_eq!(rules.readable([word(&slot) | 0xFFFF << 48; 3]), literal);
+                }
+            }
+        }
+    }
+}

@@ -1,0 +1,89 @@
+//! The record: opening it, and the event call on its four tables.
+
+use super::message::Rules;
+use super::slots::{Row, fits};
+use super::{Event, Plan, Sent, acceptor, leader, refusal, weight};
+
+/// Opens a record: every byte becomes zero. Refuses 1 and 2.
+pub fn open(plan: Plan, states: &mut [u8], votes: &mut [u8], network: &mut [u8], inboxes: &mut [u8]) -> Result<(), u8> {
+    plan.check()?;
+    lengths(plan, states, votes, network, inboxes)?;
+    for table in [states, votes, network, inboxes] {
+        table.fill(0);
+    }
+    Ok(())
+}
+
+/// The event call.
+pub fn event(
+    plan: Plan,
+    states: &mut [u8],
+    votes: &mut [u8],
+    network: &mut [u8],
+    inboxes: &mut [u8],
+    event: &[u8],
+) -> Result<Sent, u8> {
+    Record::judge(plan, states, votes, network, inboxes)?.step(event)
+}
+
+fn lengths(plan: Plan, states: &[u8], votes: &[u8], network: &[u8], inboxes: &[u8]) -> Result<(), u8> {
+    let leaders = usize::from(plan.leaders);
+    let ok = states.len() == usize::from(plan.rms)
+        && votes.len() == acceptor::length(plan)
+        && fits(network.len())
+        && inboxes.len().is_multiple_of(leaders)
+        && fits(inboxes.len() / leaders);
+    if ok { Ok(()) } else { Err(refusal::LENGTH) }
+}
+
+/// Four tables that have been judged. Steps keep them sound, so that a list
+/// of events needs a single judgement.
+pub(crate) struct Record<'a> {
+    plan: Plan,
+    states: &'a mut [u8],
+    votes: &'a mut [u8],
+    network: Row<'a>,
+    inboxes: [Option<Row<'a>>; 4],
+}
+
+impl<'a> Record<'a> {
+    pub fn judge(
+        plan: Plan,
+        states: &'a mut [u8],
+        votes: &'a mut [u8],
+        network: &'a mut [u8],
+        inboxes: &'a mut [u8],
+    ) -> Result<Record<'a>, u8> {
+        plan.check()?;
+        lengths(plan, states, votes, network, inboxes)?;
+        weight::judge(states)?;
+        acceptor::judge(votes)?;
+        let rules = Rules::new(plan);
+        let network = Row::judge(&rules, network).ok_or(refusal::NETWORK)?;
+        let part = inboxes.len() / usize::from(plan.leaders);
+        let mut rest = inboxes;
+        let mut rows = [const { None }; 4];
+        for row in &mut rows[..usize::from(plan.leaders)] {
+            let (inbox, others) = rest.split_at_mut(part);
+            *row = Some(Row::judge(&rules, inbox).ok_or(refusal::INBOXES)?);
+            rest = others;
+        }
+        Ok(Record { plan, states, votes, network, inboxes: rows })
+    }
+
+    pub fn step(&mut self, event: &[u8]) -> Result<Sent, u8> {
+        let event = Event::read(self.plan, event, 0, 8)?;
+        match event.kind {
+            0..=2 => weight::step(self.states, &mut self.network, event),
+            3 => acceptor::step(self.plan, self.votes, &mut self.network, event),
+            _ => {
+                let inbox = self.inboxes[usize::from(event.who)].as_mut().ok_or(refusal::EVENT)?;
+                leader::step(self.plan, inbox, &mut self.network, event)
+            }
+        }
+    }
+
+    pub fn states(&self) -> &[u8] {
+        self.states
+    }
+}
