@@ -1,81 +1,123 @@
 -- The bounds of a slot's bytes say what the reader says: a slot is a form exactly when it is used.
---     between-in                what the code tests of a byte
---     isUsed                    a slot that holds a message
---     plan-used, form-used      no slot is used under a plan out of range; under one in range the forms are
---     Bounded, bounded          bounds made by the code from a plan in range
---     used-step, used-stop      counting the used slots at the start
---     form-past, form-unknown, form-known     the code's three answers for a slot
+--     over-zero, distance-of, within-in     what the code tests of a byte
+--     plan-used                             no slot is used under a plan out of range
+--     Bounded, bounded                      bounds made by the code from a plan in range
+--     form-step, last-step                  the slot at a place, with the two bytes after it
+--     none-seen, slot-lanes                 eight tests, each beside what was seen before
 -- Assumes nothing.
-use Prim.Native.Nat.{ℕ, _+_, _-_, _*_, _/_, _≤_, _<_}
+use Prim.Native.Nat.{ℕ, zero, suc, _+_, _-_, _*_, _/_, _%_, _≤_, _<_}
 use mathlib.Core.Bool.{Bool, true, false, not, _&&_, _||_, cond, and-assoc, and-true, false≢true}
 use mathlib.Core.List.{List, [], _∷_, map}
 use mathlib.Core.Path.{_≡_, refl, sym, _∙_, ap}
 use native.Mathlib.Decide.{decLe, ℕ-discrete}
-use native.Mathlib.Nat.{add-sub-cancel-left}
+use native.Mathlib.Nat.{add-zero, add-sub-cancel-left, not-suc-le-zero}
 use native.Mathlib.Omega.{arith}
-use lib.Dec.{leb, ltb, eqb, leb·zero}
-use lib.ListN.{length, getD, take, drop, length-drop, List·getD-eq-default}
-use lib.Seq.{length-take-le}
-use borrow.Author.Tests.{eq-eqb, ne-eqb, le-leb, lt-leb, lt-ltb, le-ltb, not-true, not-false}
+use lib.Dec.{leb, ltb, eqb, leb·zero, lit≤}
+use lib.ListN.{length, getD, take, drop, List·getD-map}
+use lib.Seq.{getD-take, getD-drop}
+use borrow.Author.Tests.{eq-eqb, ne-eqb, le-leb, lt-leb, lt-ltb, le-ltb, eqb-true}
 use Rattle.message.specs.declared.Plan.{Plan}
 use Rattle.message.specs.declared.Message.{Message}
 use Rattle.message.specs.Outcome.{accepted, refused, refuseIf}
+use Rattle.message.specs.Outcome.Laws.{both}
 use Rattle.message.specs.Plan.{isPlan}
 use Rattle.message.specs.Plan.Laws.{plan-bounds}
 use Rattle.message.specs.Form.{mapLength, mapLengths, fieldsMessage, decode, isValue, isVote, isInRange}
 use Rattle.message.specs.Form.Laws.{knownMap}
 use Rattle.message.specs.Codec.{readMessage}
 use Rattle.message.specs.Codec.Laws.{readMessage-plan, readMessage-empty}
+use Rattle.slots.specs.declared.judge.Lanes.{Lanes}
 use Rattle.slots.specs.Table.{Slot, Unused, Used, Bad, slotSize, slots, isZero, usedSlot, readSlot, readTable}
 use Rattle.slots.specs.All.{all}
 use Rattle.slots.specs.Table.Scan.{leadingUsed}
-use Rattle.slots.specs.Table.Laws.{readSlot-unused, slotAt, length-readTable, leadingUsed-step, leadingUsed-unused, leadingUsed-bad}
-use Rattle.slots.specs.Table.Laws.Bounds.{isBetween, putBound, putRow, noRows, lows, highs, inBounds, isForm}
+use Rattle.slots.specs.Table.Laws.{readSlot-unused, slotAt}
+use Rattle.slots.specs.Table.Laws.Bounds.{distanceFrom, isWithin, putBound, putRow, putSpan, lows, spansOf, inBounds, isForm, isClear, eightAt}
+use Rattle.slots.specs.Table.Laws.Each.{interchange}
+use Rattle.slots.specs.Table.Laws.Edge.{isUsed, usedAt}
 use Rattle.message.proofs.Guards.{passed}
-use Rattle.slots.proofs.Six.{six}
+use Rattle.slots.proofs.Six.{slot-six}
 
--- a byte is at most 255
-pub between-in : (low byte high : ℕ) → byte < 256 → (leb low byte && leb byte high) ≡ isBetween low byte high
-unfolding isBetween
-between-in low byte high h = go (decLe 255 high)
+pub over-more : (a b : ℕ) → b < a → eqb (a - b) 0 ≡ leb a b
+over-more a b h = rw (lt-leb a b h) (ne-eqb (a - b) 0 (λ e. not-suc-le-zero {n = 0} (omega arith)))
+
+pub over-none : (a b : ℕ) → a ≤ b → true ≡ leb a b
+over-none a b h = sym (le-leb a b h)
+
+module _ (low byte : ℕ) where
+  pub distance-above : low ≤ byte → byte - low ≡ distanceFrom low byte
+  unfolding distanceFrom
+  distance-above h = rw (le-leb low byte h) refl
+
+  pub distance-below : byte < low → low < 256 → byte + (255 - low) + 1 ≡ distanceFrom low byte
+  unfolding distanceFrom
+  distance-below h l = rw (lt-leb low byte h) (omega arith)
+
+  -- a byte is at most 255
+  pub within-in : (span : ℕ) → byte < 256 → low < 256 → leb (distanceFrom low byte) span ≡ isWithin low byte span
+  unfolding distanceFrom isWithin
+  within-in span h l = go (decLe 255 span) (decLe low byte) (decLe 255 (low + span))
+    where
+      go : Dec (255 ≤ span) → Dec (low ≤ byte) → Dec (255 ≤ low + span)
+          → leb (cond (leb low byte) (byte - low) (byte + 256 - low)) span
+          ≡ (leb 255 span || cond (leb low byte) (leb 255 (low + span) || leb (byte - low) span) (leb (byte + 256 - low) span))
+      go (yes k) (yes x) d = rw (le-leb 255 span k, le-leb low byte x) (le-leb (byte - low) span (omega arith))
+      go (yes k) (no x) d = rw (le-leb 255 span k, lt-leb low byte (omega arith)) (le-leb (byte + 256 - low) span (omega arith))
+      go (no k) (yes x) (yes y) = rw (lt-leb 255 span (omega arith), le-leb low byte x, le-leb 255 (low + span) y) (le-leb (byte - low) span (omega arith))
+      go (no k) (yes x) (no y) = rw (lt-leb 255 span (omega arith), le-leb low byte x, lt-leb 255 (low + span) (omega arith)) refl
+      go (no k) (no x) d = rw (lt-leb 255 span (omega arith), lt-leb low byte (omega arith)) refl
+
+-- the kinds of bounds
+within-zero : (b : ℕ) → isWithin 0 b 0 ≡ eqb b 0
+unfolding isWithin
+within-zero b = rw (leb·zero b) (go (ℕ-discrete b 0))
   where
-    go : Dec (255 ≤ high) → (leb low byte && leb byte high) ≡ (leb low byte && (leb 255 high || leb byte high))
-    go (yes k) = rw (le-leb 255 high k, le-leb byte high (omega arith))
-    go (no k) = rw (lt-leb 255 high (omega arith))
+    go : Dec (b ≡ 0) → leb (b - 0) 0 ≡ eqb b 0
+    go (yes e) = rw (eq-eqb b 0 e) (le-leb (b - 0) 0 (omega arith))
+    go (no n) = rw (ne-eqb b 0 n) (lt-leb (b - 0) 0 (omega arith))
 
--- the five kinds of bounds
-between-zero : (b : ℕ) → isBetween 0 b 0 ≡ eqb b 0
-unfolding isBetween
-between-zero b = rw (leb·zero b) (go (ℕ-discrete b 0))
+within-any : (low b : ℕ) → isWithin low b 255 ≡ true
+unfolding isWithin
+within-any low b = refl
+
+within-from : (b : ℕ) → isWithin 1 b 254 ≡ leb 1 b
+unfolding isWithin
+within-from b = go (decLe 1 b)
   where
-    go : Dec (b ≡ 0) → leb b 0 ≡ eqb b 0
-    go (yes e) = rw (eq-eqb b 0 e) (le-leb b 0 (omega arith))
-    go (no n) = rw (ne-eqb b 0 n) (lt-leb b 0 (omega arith))
+    go : Dec (1 ≤ b) → cond (leb 1 b) true (leb (b + 256 - 1) 254) ≡ leb 1 b
+    go (yes h) = rw (le-leb 1 b h) refl
+    go (no h) = rw (lt-leb 1 b (omega arith)) (lt-leb (b + 256 - 1) 254 (omega arith))
 
-between-any : (b : ℕ) → isBetween 0 b 255 ≡ true
-unfolding isBetween
-between-any b = rw (leb·zero b)
-
-between-from : (b : ℕ) → isBetween 1 b 255 ≡ leb 1 b
-unfolding isBetween
-between-from b = and-true _
-
-between-value : (b : ℕ) → isBetween 1 b 2 ≡ isValue b
-unfolding isBetween isValue
-between-value b = refl
-
-between-below : (b n : ℕ) → 1 ≤ n → n ≤ 16 → isBetween 0 b (n - 1) ≡ ltb b n
-unfolding isBetween
-between-below b n l m = rw (leb·zero b, lt-leb 255 (n - 1) (omega arith)) (go (decLe n b))
+within-value : (b : ℕ) → isWithin 1 b 1 ≡ isValue b
+unfolding isWithin isValue
+within-value b = go (decLe 1 b) (decLe b 2)
   where
-    go : Dec (n ≤ b) → leb b (n - 1) ≡ ltb b n
-    go (yes k) = rw (le-ltb b n k) (lt-leb b (n - 1) (omega arith))
-    go (no k) = rw (lt-ltb b n (omega arith)) (le-leb b (n - 1) (omega arith))
+    go : Dec (1 ≤ b) → Dec (b ≤ 2) → cond (leb 1 b) (leb (b - 1) 1) (leb (b + 256 - 1) 1) ≡ (leb 1 b && leb b 2)
+    go (yes h) (yes k) = rw (le-leb 1 b h, le-leb b 2 k) (le-leb (b - 1) 1 (omega arith))
+    go (yes h) (no k) = rw (le-leb 1 b h, lt-leb b 2 (omega arith)) (lt-leb (b - 1) 1 (omega arith))
+    go (no h) d = rw (lt-leb 1 b (omega arith)) (lt-leb (b + 256 - 1) 1 (omega arith))
 
-abbrev pub isUsed : Slot → Bool
-isUsed Unused = false
-isUsed (Used m) = true
-isUsed Bad = false
+within-below : (b n : ℕ) → 1 ≤ n → n ≤ 16 → isWithin 0 b (n - 1) ≡ ltb b n
+unfolding isWithin
+within-below b n l m = rw (leb·zero b, lt-leb 255 (n - 1) (omega arith), lt-leb 255 (0 + (n - 1)) (omega arith)) (go (decLe n b))
+  where
+    go : Dec (n ≤ b) → leb (b - 0) (n - 1) ≡ ltb b n
+    go (yes k) = rw (le-ltb b n k) (lt-leb (b - 0) (n - 1) (omega arith))
+    go (no k) = rw (lt-ltb b n (omega arith)) (le-leb (b - 0) (n - 1) (omega arith))
+
+within-map : (m : ℕ) → isWithin m m 0 ≡ true
+unfolding isWithin
+within-map m = rw (le-leb m m (omega arith), le-leb (m - m) 0 (omega arith)) (go (leb 255 (m + 0)))
+  where
+    go : (b : Bool) → (b || true) ≡ true
+    go true = refl
+    go false = refl
+
+within-other : (low m : ℕ) → m < 256 → low < 256 → (low ≡ m → ⊥) → isWithin low m 0 ≡ false
+within-other low m h l n = sym (within-in low m 0 h l) ∙ far (decLe low m)
+  where
+    far : Dec (low ≤ m) → leb (distanceFrom low m) 0 ≡ false
+    far (yes x) = rw (← distance-above low m x) (lt-leb (m - low) 0 (omega (arith, n)))
+    far (no x) = rw (← distance-below low m (omega arith) l) (lt-leb (m + (255 - low) + 1) 0 (omega arith))
 
 -- a slot whose message is refused, and one whose message is known
 none-used : (zeros rest : Bool) (k : ℕ) → isUsed (cond zeros Unused (usedSlot (refused k) rest)) ≡ false
@@ -87,6 +129,32 @@ unfolding refuseIf
 range-used true true m = refl
 range-used true false m = refl
 range-used false rest m = refl
+
+-- a test of each number below
+below : ℕ → (ℕ → Bool) → Bool
+below zero f = true
+below (suc n) f = below n f && f n
+
+below-at : (f : ℕ → Bool) (n k : ℕ) → below n f ≡ true → k < n → f k ≡ true
+unfolding below
+below-at f zero k e h = absurd (not-suc-le-zero h)
+below-at f (suc n) k e h = go (ℕ-discrete k n) (λ l. below-at f n k (both (below n f) (f n) e .0) l)
+  where
+    go : Dec (k ≡ n) → (k < n → f k ≡ true) → f k ≡ true
+    go (yes x) rest = rw x (both (below n f) (f n) e .1)
+    go (no x) rest = rest (omega arith)
+
+-- the lowest map byte of a row: the map, where it is known, else 255
+rowMap : ℕ → Bool
+rowMap row = cond (eqb (mapLength row) 0) (eqb (getD lows (row * 8 + 0) 0) 255) (eqb (getD lows (row * 8 + 0) 0) row)
+
+rows-map : below 32 rowMap ≡ true
+unfolding below rowMap lows putRow putBound mapLength mapLengths
+rows-map = refl
+
+last-known : mapLength (255 % 32) ≡ 0 → ⊥
+unfolding mapLength mapLengths
+last-known x = not-suc-le-zero {n = 0} (omega (arith, x))
 
 module _ (p : Plan) where
   plan-none : isPlan p ≡ false → (ss : List (List ℕ)) → leadingUsed (map (readSlot p) ss) ≡ 0
@@ -102,102 +170,139 @@ module _ (p : Plan) where
   unfolding readTable
   plan-used e t = sym (plan-none e (slots t))
 
-  module _ (e : isPlan p ≡ true) (b1 b2 b3 b4 b5 : ℕ) where
-    ins : isBetween 0 b1 (p .rms - 1) ≡ ltb b1 (p .rms)
-    ins = let b = plan-bounds p e in between-below b1 (p .rms) (b .rms-least) (b .rms-most)
+  -- of a row only the map itself lies within the bounds of the first place
+  rows-span : below 32 (λ row. eqb (getD (spansOf p) (row * 8 + 0) 0) 0) ≡ true
+  unfolding below spansOf putSpan putRow putBound
+  rows-span = refl
 
-    acc : isBetween 0 b2 (p .acceptors - 1) ≡ ltb b2 (p .acceptors)
-    acc = let b = plan-bounds p e in between-below b2 (p .acceptors) (b .acceptors-least) (omega (arith, b .acceptors-most))
+  unknown-map : (m : ℕ) → m < 256 → mapLength m ≡ 0
+      → isWithin (getD lows (m % 32 * 8 + 0) 0) m (getD (spansOf p) (m % 32 * 8 + 0) 0) ≡ false
+  unfolding rowMap
+  unknown-map m h u =
+      rw (eqb-true (getD (spansOf p) (m % 32 * 8 + 0) 0) 0
+      (below-at (λ row. eqb (getD (spansOf p) (row * 8 + 0) 0) 0) 32 (m % 32) rows-span (omega arith)))
+      (go (ℕ-discrete (mapLength (m % 32)) 0) (below-at rowMap 32 (m % 32) rows-map (omega arith)))
+    where
+      go : Dec (mapLength (m % 32) ≡ 0) → rowMap (m % 32) ≡ true → isWithin (getD lows (m % 32 * 8 + 0) 0) m 0 ≡ false
+      go (yes z) e =
+          rw (eqb-true (getD lows (m % 32 * 8 + 0) 0) 255 (rw (eq-eqb (mapLength (m % 32)) 0 z) at e))
+          (within-other 255 m h (omega arith) (λ x. last-known (rw (← x) at z)))
+      go (no z) e =
+          rw (eqb-true (getD lows (m % 32 * 8 + 0) 0) (m % 32) (rw (ne-eqb (mapLength (m % 32)) 0 z) at e))
+          (within-other (m % 32) m h (omega arith) (λ x. z (ap mapLength x ∙ u)))
+
+  module _ (e : isPlan p ≡ true) (b1 b2 b3 b4 b5 b6 b7 : ℕ) where
+    ins : isWithin 0 b1 (p .rms - 1) ≡ ltb b1 (p .rms)
+    ins = let b = plan-bounds p e in within-below b1 (p .rms) (b .rms-least) (b .rms-most)
+
+    acc : isWithin 0 b2 (p .acceptors - 1) ≡ ltb b2 (p .acceptors)
+    acc = let b = plan-bounds p e in within-below b2 (p .acceptors) (b .acceptors-least) (omega (arith, b .acceptors-most))
 
     Judged : ℕ → Type 0
     Judged map =
-        isForm lows (highs p) (map ∷ b1 ∷ b2 ∷ b3 ∷ b4 ∷ b5 ∷ [])
+        isForm lows (spansOf p) (map ∷ b1 ∷ b2 ∷ b3 ∷ b4 ∷ b5 ∷ b6 ∷ b7 ∷ [])
         ≡ isUsed (readSlot p (map ∷ b1 ∷ b2 ∷ b3 ∷ b4 ∷ b5 ∷ []))
 
     judged-known : (map : ℕ) → (mapLength map ≡ 0 → ⊥) → Judged map
-    unfolding Judged isForm inBounds lows highs noRows putRow putBound mapLength mapLengths
+    unfolding Judged isForm inBounds lows spansOf putSpan putRow putBound mapLength mapLengths
         readSlot readMessage refuseIf decode fieldsMessage isZero all isInRange isVote
     judged-known =
         knownMap Judged
-        (simp (e, range-used, ins, between-from, between-zero, and-assoc, and-true))
-        (simp (e, range-used, ins, acc, between-any, between-zero, and-assoc, and-true))
-        (simp (e, range-used, ins, acc, between-any, between-value, and-assoc, and-true))
-        (simp (e, range-used, ins, between-any, between-value, between-zero, and-assoc, and-true))
-        (simp (e, range-used, ins, acc, between-any, between-value, between-zero, and-assoc, and-true))
-        (simp (e, range-used, between-value, between-zero, and-assoc, and-true))
+        (simp (e, range-used, within-map, ins, within-any, within-from, within-zero, and-assoc, and-true))
+        (simp (e, range-used, within-map, ins, acc, within-any, within-zero, and-assoc, and-true))
+        (simp (e, range-used, within-map, ins, acc, within-any, within-value, and-assoc, and-true))
+        (simp (e, range-used, within-map, ins, within-any, within-value, within-zero, and-assoc, and-true))
+        (simp (e, range-used, within-map, ins, acc, within-any, within-value, within-zero, and-assoc, and-true))
+        (simp (e, range-used, within-map, within-any, within-value, within-zero, and-assoc, and-true))
 
     -- an unknown map: no bytes to read
-    judged-none : (map : ℕ) → mapLength map ≡ 0 → Judged map
-    unfolding Judged isForm readSlot
-    judged-none map u =
+    judged-none : (map : ℕ) → map < 256 → mapLength map ≡ 0 → Judged map
+    unfolding Judged isForm inBounds readSlot
+    judged-none map h u =
         let zeros : Bool = isZero (map ∷ b1 ∷ b2 ∷ b3 ∷ b4 ∷ b5 ∷ []) in
-        rw (u, readMessage-empty p [] e refl) (sym (none-used zeros zeros 15))
+        rw (unknown-map map h u, u, readMessage-empty p [] e refl) (sym (none-used zeros zeros 15))
 
-    judged : (map : ℕ) → Judged map
-    judged map = elim (ℕ-discrete (mapLength map) 0) [ yes u ↦ judged-none map u | no k ↦ judged-known map k ]
-
-  form-used : isPlan p ≡ true → (s : List ℕ) → length s ≡ slotSize → isForm lows (highs p) s ≡ isUsed (readSlot p s)
-  unfolding Judged
-  form-used e s n = rw (six s n) (judged e (getD s 1 0) (getD s 2 0) (getD s 3 0) (getD s 4 0) (getD s 5 0) (getD s 0 0))
+    judged : (map : ℕ) → map < 256 → Judged map
+    judged map h = elim (ℕ-discrete (mapLength map) 0) [ yes u ↦ judged-none map h u | no k ↦ judged-known map k ]
 
 -- the code's bounds are those of the plan, which is in range
-pub record Bounded (p : Plan) (low high : List ℕ) : Type 0 where
+pub record Bounded (p : Plan) (low span : List ℕ) : Type 0 where
   pub plan : isPlan p ≡ true
   pub lowest : low ≡ lows
-  pub highest : high ≡ highs p
+  pub spans : span ≡ spansOf p
 
-pub bounded : {p : Plan} {low high : List ℕ} {r : Bool} → r ≡ isPlan p → not r ≡ false → low ≡ lows → high ≡ highs p
-    → Bounded p low high
-bounded of-r left l h = record { plan = passed of-r left; lowest = l; highest = h }
+-- the slot at a place, with the two bytes after it
+module _ {p : Plan} {low span : List ℕ} (b : Bounded p low span) (t : List ℕ) (k : ℕ) (h : k < length t / slotSize) where
+  form-at : getD t (k * slotSize) 0 < 256 → isForm low span (eightAt t (k * slotSize)) ≡ usedAt p t k
+  unfolding usedAt readTable eightAt Judged isZero all
+  form-at byte =
+      rw (b .lowest, b .spans)
+      (judged p (b .plan) _ _ _ _ _ _ _ (getD t (k * slotSize) 0) byte
+      ∙ ap (λ (s : List ℕ). isUsed (readSlot p s)) (sym (slot-six t k h))
+      ∙ ap isUsed (sym (rw (readSlot-unused p [] refl) at (List·getD-map (readSlot p) (slots t) k []))))
 
--- the code's answer for the slot at `k`, and counting the used slots at the start
-module _ (p : Plan) (low high : List ℕ) (b : Bounded p low high) (t : List ℕ) (k : ℕ) (h : k < length t / slotSize)
-    (r : Bool) (of-r : r ≡ isForm low high (take (k * slotSize + slotSize - k * slotSize) (drop (k * slotSize) t))) where
-  within : k < length (readTable p t)
-  within = rw (length-readTable p t) h
+  pub form-step : (at : ℕ) (c r : Bool) → (r ≡ (c && isForm low span (eightAt t at))) × (getD t at 0 < 256) → at ≡ k * slotSize
+      → r ≡ (c && usedAt p t k)
+  form-step at c r x e = x .0 ∙ ap (λ (y : Bool). c && y) (rw e (form-at (rw (← e) (x .1))))
 
-  part-length : length (take (k * slotSize + slotSize - k * slotSize) (drop (k * slotSize) t)) ≡ slotSize
-  part-length =
-      rw (add-sub-cancel-left (k * slotSize) slotSize)
-      (length-take-le slotSize (drop (k * slotSize) t) (rw (length-drop (k * slotSize) t) (omega arith)))
+  -- the same of a copy
+  pub last-step : (s : List ℕ) (c r : Bool) → (r ≡ (c && isForm low span (eightAt s 0))) × (getD s 0 0 < 256) → s ≡ eightAt t (k * slotSize)
+      → r ≡ (c && usedAt p t k)
+  unfolding eightAt
+  last-step s c r x e = form-step (k * slotSize) c r (rw e at x) refl
 
-  answer : isUsed (getD (readTable p t) k Unused) ≡ r
-  unfolding readTable isZero all
-  answer =
-      ap isUsed (sym (slotAt (readSlot p) Unused (readSlot-unused p [] refl) t k h))
-      ∙ sym (of-r ∙ rw (b .lowest, b .highest) (form-used p (b .plan) _ part-length))
+-- eight tests, each beside what was seen before
+lanes : (s0 l0 s1 l1 s2 l2 s3 l3 s4 l4 s5 l5 s6 l6 s7 l7 : Bool)
+    → ((s0 && l0) && (s1 && l1) && (s2 && l2) && (s3 && l3) && (s4 && l4) && (s5 && l5) && (s6 && l6) && (s7 && l7))
+    ≡ ((s0 && s1 && s2 && s3 && s4 && s5 && s6 && s7) && (l0 && l1 && l2 && l3 && l4 && l5 && l6 && l7))
+lanes s0 l0 s1 l1 s2 l2 s3 l3 s4 l4 s5 l5 s6 l6 s7 l7 =
+    rw (
+      interchange s0 s1 l0 l1,
+      interchange (s0 && s1) s2 (l0 && l1) l2,
+      interchange (s0 && s1 && s2) s3 (l0 && l1 && l2) l3,
+      interchange (s0 && s1 && s2 && s3) s4 (l0 && l1 && l2 && l3) l4,
+      interchange (s0 && s1 && s2 && s3 && s4) s5 (l0 && l1 && l2 && l3 && l4) l5,
+      interchange (s0 && s1 && s2 && s3 && s4 && s5) s6 (l0 && l1 && l2 && l3 && l4 && l5) l6,
+    )
+    (interchange (s0 && s1 && s2 && s3 && s4 && s5 && s6) s7 (l0 && l1 && l2 && l3 && l4 && l5 && l6) l7)
 
-  pub used-step : not r ≡ false → k + 1 + leadingUsed (drop (k + 1) (readTable p t)) ≡ k + leadingUsed (drop k (readTable p t))
-  used-step left = go _ refl (answer ∙ not-false r left)
-    where
-      go : (s : Slot) → getD (readTable p t) k Unused ≡ s → isUsed s ≡ true
-          → k + 1 + leadingUsed (drop (k + 1) (readTable p t)) ≡ k + leadingUsed (drop k (readTable p t))
-      go Unused e u = absurd (false≢true u)
-      go (Used m) e u = leadingUsed-step _ k within m e
-      go Bad e u = absurd (false≢true u)
+-- before the first slot
+pub none-seen : isClear (record { b0 = 0; b1 = 0; b2 = 0; b3 = 0; b4 = 0; b5 = 0; b6 = 0; b7 = 0 }) ≡ true
+unfolding isClear
+none-seen = refl
 
-  pub used-stop : not r ≡ true → k + leadingUsed (drop k (readTable p t)) ≡ k
-  used-stop taken = go _ refl (answer ∙ not-true r taken)
-    where
-      go : (s : Slot) → getD (readTable p t) k Unused ≡ s → isUsed s ≡ false → k + leadingUsed (drop k (readTable p t)) ≡ k
-      go Unused e u = leadingUsed-unused _ k within e
-      go (Used m) e u = absurd (false≢true (sym u))
-      go Bad e u = leadingUsed-bad _ k within e
+-- one slot further
+module _ (low span t : List ℕ) (at row : ℕ) (of-row : row ≡ getD t at 0 % 32 * 8) where
+  first-lane : (x : Bool) (s : ℕ) → x ≡ (eqb s 0 && isWithin (getD low row 0) (getD t at 0) (getD span row 0))
+      → x ≡ (eqb s 0 && inBounds low span (eightAt t at) 0)
+  unfolding inBounds eightAt
+  first-lane x s e = rw (add-zero, ← of-row) e
 
--- the answers that the code gives for a slot
-module _ (low high s : List ℕ) where
-  pub form-past : 32 ≤ getD s 0 0 → false ≡ isForm low high s
-  unfolding isForm mapLength mapLengths
-  form-past h = rw (List·getD-eq-default mapLengths 0 {n = getD s 0 0} h)
+  lane-at : (x : Bool) (s j : ℕ) → getD (eightAt t at) j 0 ≡ getD t (at + j) 0
+      → x ≡ (eqb s 0 && isWithin (getD low (row + j) 0) (getD t (at + j) 0) (getD span (row + j) 0))
+      → x ≡ (eqb s 0 && inBounds low span (eightAt t at) j)
+  unfolding inBounds eightAt
+  lane-at x s j b e = rw (b, ← of-row) e
 
-  module _ (lengths : List ℕ) (of-lengths : lengths ≡ mapLengths) where
-    pub form-unknown : getD lengths (getD s 0 0) 0 ≡ 0 → false ≡ isForm low high s
-    unfolding isForm mapLength
-    form-unknown e = rw (← of-lengths, eq-eqb _ _ e)
-
-    pub form-known : (getD lengths (getD s 0 0) 0 ≡ 0 → ⊥) → (r1 r2 r3 r4 r5 : Bool)
-        → r1 ≡ inBounds low high s 1 → r2 ≡ inBounds low high s 2 → r3 ≡ inBounds low high s 3
-        → r4 ≡ inBounds low high s 4 → r5 ≡ inBounds low high s 5
-        → (r1 && r2 && r3 && r4 && r5) ≡ isForm low high s
-    unfolding isForm mapLength
-    form-known n r1 r2 r3 r4 r5 e1 e2 e3 e4 e5 = rw (← of-lengths, ne-eqb _ _ n, e1, e2, e3, e4, e5)
+  pub slot-lanes : (seen r : Lanes)
+      → eqb (r .b0) 0 ≡ (eqb (seen .b0) 0 && isWithin (getD low row 0) (getD t at 0) (getD span row 0))
+      → eqb (r .b1) 0 ≡ (eqb (seen .b1) 0 && isWithin (getD low (row + 1) 0) (getD t (at + 1) 0) (getD span (row + 1) 0))
+      → eqb (r .b2) 0 ≡ (eqb (seen .b2) 0 && isWithin (getD low (row + 2) 0) (getD t (at + 2) 0) (getD span (row + 2) 0))
+      → eqb (r .b3) 0 ≡ (eqb (seen .b3) 0 && isWithin (getD low (row + 3) 0) (getD t (at + 3) 0) (getD span (row + 3) 0))
+      → eqb (r .b4) 0 ≡ (eqb (seen .b4) 0 && isWithin (getD low (row + 4) 0) (getD t (at + 4) 0) (getD span (row + 4) 0))
+      → eqb (r .b5) 0 ≡ (eqb (seen .b5) 0 && isWithin (getD low (row + 5) 0) (getD t (at + 5) 0) (getD span (row + 5) 0))
+      → eqb (r .b6) 0 ≡ (eqb (seen .b6) 0 && isWithin (getD low (row + 6) 0) (getD t (at + 6) 0) (getD span (row + 6) 0))
+      → eqb (r .b7) 0 ≡ (eqb (seen .b7) 0 && isWithin (getD low (row + 7) 0) (getD t (at + 7) 0) (getD span (row + 7) 0))
+      → isClear r ≡ (isClear seen && isForm low span (eightAt t at))
+  unfolding isClear isForm eightAt
+  slot-lanes seen r e0 e1 e2 e3 e4 e5 e6 e7 =
+      rw (first-lane (eqb (r .b0) 0) (seen .b0) e0, lane-at (eqb (r .b1) 0) (seen .b1) 1 refl e1, lane-at (eqb (r .b2) 0) (seen .b2) 2 refl e2, lane-at (eqb (r .b3) 0) (seen .b3) 3 refl e3, lane-at (eqb (r .b4) 0) (seen .b4) 4 refl e4, lane-at (eqb (r .b5) 0) (seen .b5) 5 refl e5, lane-at (eqb (r .b6) 0) (seen .b6) 6 refl e6, lane-at (eqb (r .b7) 0) (seen .b7) 7 refl e7)
+      (lanes
+      (eqb (seen .b0) 0) (inBounds low span (eightAt t at) 0)
+      (eqb (seen .b1) 0) (inBounds low span (eightAt t at) 1)
+      (eqb (seen .b2) 0) (inBounds low span (eightAt t at) 2)
+      (eqb (seen .b3) 0) (inBounds low span (eightAt t at) 3)
+      (eqb (seen .b4) 0) (inBounds low span (eightAt t at) 4)
+      (eqb (seen .b5) 0) (inBounds low span (eightAt t at) 5)
+      (eqb (seen .b6) 0) (inBounds low span (eightAt t at) 6)
+      (eqb (seen .b7) 0) (inBounds low span (eightAt t at) 7))

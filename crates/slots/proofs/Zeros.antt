@@ -1,22 +1,18 @@
 -- Numbers put together by `|` and `^`, to see whether all are zero or the same.
 --     or-zero                the result is zero exactly when both are
 --     xor-zero, differ-zero  the differing bits are none exactly when the numbers are the same; of two pairs
---     zero-step, zero-end    one byte further, and after the last
+--     zeroAt                 one byte of a list
 -- Assumes nothing.
-use Prim.Native.Nat.{ℕ, _+_, _≤_, _<_}
-use mathlib.Core.Bool.{_&&_, and-assoc, and-true}
+use Prim.Native.Nat.{ℕ}
+use mathlib.Core.Bool.{Bool, _&&_}
 use mathlib.Core.List.{List}
 use mathlib.Core.Path.{_≡_, _∙_}
 use native.Mathlib.Decide.{ℕ-discrete}
-use native.Mathlib.Numerals.{add-one}
 use native.Mathlib.Omega.{arith}
 use lib.Bits.{bitOr, bitXor, or-add-and, xor-add-and, xor-self, and-le-l, and-le-r}
 use lib.Dec.{eqb}
-use lib.ListN.{length, getD, drop, drop-of-length-le}
-use lib.Seq.{drop-cons}
+use lib.ListN.{getD}
 use borrow.Author.Tests.{eq-eqb, ne-eqb}
-use Rattle.slots.specs.All.{all}
-use Rattle.slots.specs.Table.{isZero}
 
 pub or-zero : (a b : ℕ) → eqb (bitOr a b) 0 ≡ (eqb a 0 && eqb b 0)
 or-zero a b = go (ℕ-discrete a 0) (ℕ-discrete b 0)
@@ -36,12 +32,6 @@ xor-zero a b = go (ℕ-discrete a b)
 pub differ-zero : (a b c d : ℕ) → eqb (bitOr (bitXor a b) (bitXor c d)) 0 ≡ (eqb a b && eqb c d)
 differ-zero a b c d = or-zero (bitXor a b) (bitXor c d) ∙ rw (xor-zero a b, xor-zero c d)
 
-module _ (l : List ℕ) (i any : ℕ) where
-  pub zero-step : i < length l → (r : ℕ) → eqb r 0 ≡ (eqb any 0 && eqb (getD l i 0) 0)
-      → (eqb r 0 && isZero (drop (i + 1) l)) ≡ (eqb any 0 && isZero (drop i l))
-  unfolding isZero all
-  zero-step h r e = rw (e, drop-cons l i 0 h, add-one) (and-assoc (eqb any 0) (eqb (getD l i 0) 0) _)
-
-  pub zero-end : length l ≤ i → (eqb any 0 && isZero (drop i l)) ≡ eqb any 0
-  unfolding isZero all
-  zero-end h = rw (drop-of-length-le l h) (and-true _)
+-- the byte at an index is zero
+abbrev pub zeroAt : List ℕ → ℕ → Bool
+zeroAt l k = eqb (getD l k 0) 0

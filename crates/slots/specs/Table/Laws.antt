@@ -6,6 +6,8 @@
 --     leadingUsed-step, -unused, -bad, -end, -bound, -first           counting the used slots at the start
 -- Assumes nothing.
 pub mod Bounds
+pub mod Each
+pub mod Edge
 use Prim.Native.Nat.{ℕ, zero, suc, _+_, _-_, _*_, _/_, _≤_, _<_, zero-le, suc-le-suc}
 use mathlib.Core.Bool.{Bool, true, false, _&&_, cond, not}
 use mathlib.Core.List.{List, [], _∷_, _++_, map}
@@ -192,7 +194,7 @@ unused-first p s rest e = rw e (go (isZero s) (isPlan p) (isZero s))
     go false false r = refl
 
 -- so a table that begins with 0 has no leading used slots
-pub leadingUsed-first : (p : Plan) (t : List ℕ) → getD t 0 0 ≡ 0 → 0 ≡ leadingUsed (readTable p t)
+leadingUsed-first : (p : Plan) (t : List ℕ) → getD t 0 0 ≡ 0 → 0 ≡ leadingUsed (readTable p t)
 unfolding readTable slots slotsUpTo leadingUsed
 leadingUsed-first p t e = go (length t / slotSize)
   where
@@ -200,5 +202,9 @@ leadingUsed-first p t e = go (length t / slotSize)
     go zero = refl
     go (suc n) = unused-first p (take slotSize t) (map (readSlot p) (slotsUpTo n (drop slotSize t))) (getD-take slotSize t 0 0 (lit≤ tt) ∙ e)
 
+-- without leading used slots all bytes are zeros
+pub isTable-none : (p : Plan) (t : List ℕ) → 0 ≡ leadingUsed (readTable p t) → isTable p t ≡ isZero (take (length t / slotSize * slotSize) t)
+isTable-none p t e = isTable-zero p t 0 e ∙ ap (λ (n : ℕ). isZero (take n t)) (sub-zero (length t / slotSize * slotSize))
+
 pub isTable-first : (p : Plan) (t : List ℕ) → getD t 0 0 ≡ 0 → isTable p t ≡ isZero (take (length t / slotSize * slotSize) t)
-isTable-first p t e = isTable-zero p t 0 (leadingUsed-first p t e) ∙ ap (λ (n : ℕ). isZero (take n t)) (sub-zero (length t / slotSize * slotSize))
+isTable-first p t e = isTable-none p t (leadingUsed-first p t e)

@@ -1,9 +1,13 @@
--- `slots::judge::is_table` meets its contract: the bytes after the leading used slots are zeros. Assumes nothing.
+-- `slots::judge::is_table` meets its contract: slots before the edge are used, and the bytes from it on are zeros. Assumes nothing.
 use mathlib.Core.Path.{sym, _∙_}
 use native.Mathlib.Omega.{arith}
 use lib.Seq.{length-take-le}
-use Rattle.slots.specs.Table.Laws.{leadingUsed-readTable, isTable-zero, isTable-first}
 use borrow.Author.Needs.{needs}
+use borrow.Author.Tests.{not-true, not-false}
+use Rattle.message.proofs.Guards.{passed, failed}
+use Rattle.slots.specs.Table.Laws.{isTable-first, isTable-none}
+use Rattle.slots.specs.Table.Laws.Edge.{edge-bad, edge-good}
+use Rattle.slots.proofs.Forms.{plan-used}
 use Rattle.slots.proofs.judge.is_table.Statement.{statement}
 use Rattle.slots.proofs.judge.is_table.Tie as tie
 
@@ -17,9 +21,15 @@ is-table-spec =
     (λ c κs. tt)
     (λ c. c .is-zero .ensures ∙ sym (isTable-first _ _ (sym (c .before .before .before .byte-at .ensures) ∙ c .before .before .if1 .taken)))
     (λ c κs. tt)
-    (λ c. omega (arith, leadingUsed-readTable _ (c .before .before .before .before .args .table .now) _ (c .leading-used .ensures)))
-    (λ c. omega (arith, leadingUsed-readTable _ (c .before .before .before .before .args .table .now) _ (c .leading-used .ensures)))
-    (λ c. omega (arith, leadingUsed-readTable _ (c .before .before .before .before .args .table .now) _ (c .leading-used .ensures)))
+    (λ c. sym (length-take-le _ _ (omega arith)))
+    (λ c κs. tt)
+    (λ c. c .is-zero2 .ensures ∙ sym (isTable-none _ _ (plan-used _ (failed (c .before .before .before .is-plan .ensures) (c .before .before .if2 .taken)) _)))
+    (λ c κs. tt)
+    (λ c κs. (passed (c .before .before .is-plan .ensures) (c .before .if2 .left), c .edge .ensures .0 .within))
+    (λ c. edge-bad _ _ _ (c .before .before .edge .ensures .0) (c .before .before .edge .ensures .1) (sym (c .before .are-forms .ensures) ∙ not-true _ (c .if3 .taken)))
+    (λ c. omega (arith, c .before .before .edge .ensures .0 .within))
+    (λ c. omega (arith, c .before .before .edge .ensures .0 .within))
+    (λ c. omega (arith, c .before .before .edge .ensures .0 .within))
     (λ c. search needs)
     (λ c κs. tt)
-    (λ c. c .is-zero2 .ensures ∙ sym (isTable-zero _ _ _ (c .before .before .leading-used .ensures))))
+    (λ c. c .is-zero3 .ensures ∙ sym (edge-good _ _ _ (c .before .before .before .before .edge .ensures .0) (c .before .before .before .before .edge .ensures .1) (sym (c .before .before .before .are-forms .ensures) ∙ not-false _ (c .before .before .if3 .left)))))

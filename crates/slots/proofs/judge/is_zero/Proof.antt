@@ -1,20 +1,25 @@
--- `slots::judge::is_zero` meets its contract: the bytes passed and those from `i` on are zeros exactly when all are. Assumes nothing.
+-- `slots::judge::is_zero` meets its contract: four quarters side by side, then the rest. Assumes nothing.
 use Prim.Native.Nat.{_≤_, _-_}
-use mathlib.Core.Bool.{_&&_}
-use mathlib.Core.Path.{_≡_, refl, sym, _∙_}
+use mathlib.Core.Path.{_≡_, sym}
 use lib.Dec.{eqb}
-use lib.ListN.{length, drop}
+use lib.ListN.{length}
 use borrow.Author.Needs.{needs}
-use Rattle.slots.specs.Table.{isZero}
-use Rattle.slots.proofs.Zeros.{zero-step, zero-end}
+use Rattle.slots.specs.Table.Laws.Each.{each, fourEach, four-start, four-step, four-all, each-suc, zero-all}
+use Rattle.slots.proofs.Zeros.{zeroAt}
 use Rattle.slots.proofs.judge.is_zero.Statement.{statement}
 use Rattle.slots.proofs.judge.is_zero.Tie as tie
 
 abbrev Inv-loop : tie.InvT-loop
-Inv-loop bytes any₀ i₀ any i = (i ≤ length bytes) × ((eqb any 0 && isZero (drop i bytes)) ≡ isZero bytes)
+Inv-loop bytes quarter any₀ i₀ any i = (i ≤ quarter) × (eqb any 0 ≡ fourEach (zeroAt bytes) quarter i)
 
 abbrev μ-loop : tie.MeasureT-loop
-μ-loop bytes any₀ i₀ any i = length bytes - i
+μ-loop bytes quarter any₀ i₀ any i = quarter - i
+
+abbrev Inv-loop2 : tie.InvT-loop2
+Inv-loop2 bytes quarter any₀ i rest₀ any rest = (rest ≤ length bytes) × (eqb any 0 ≡ each (zeroAt bytes) 0 rest)
+
+abbrev μ-loop2 : tie.MeasureT-loop2
+μ-loop2 bytes quarter any₀ i rest₀ any rest = length bytes - rest
 
 pub is-zero-spec : {M : Type 1} → statement M
 is-zero-spec =
@@ -22,14 +27,34 @@ is-zero-spec =
     (tie.spec
     Inv-loop
     μ-loop
-    (λ c. (search needs, refl))
+    Inv-loop2
+    μ-loop2
+    (λ c. (search needs, sym (four-start (zeroAt (c .before .args .bytes .now)) _)))
+    (λ c. search needs)
+    (λ c κs. tt)
+    (λ c. search needs)
+    (λ c. search needs)
+    (λ c κs. tt)
+    (λ c. search needs)
+    (λ c. search needs)
+    (λ c. search needs)
+    (λ c κs. tt)
+    (λ c. search needs)
+    (λ c. search needs)
     (λ c. search needs)
     (λ c κs. tt)
     (λ c. search needs)
     (λ c. search needs)
     (λ c. (
       search needs,
-      zero-step (c .before .before .before .before .before .args .bytes .now) _ (c .before .before .before .loop .any)
-          (c .before .before .loop-test .taken) (c .either .result) (c .either .ensures) ∙ c .before .before .before .loop .inv .1,
+      four-step (zeroAt (c .before .before .before .before .before .before .before .before .before .before .before .args .bytes .now)) _ _ _ _ _ _ _ (c .before .before .before .before .before .before .before .before .before .loop .inv .1) (c .before .before .before .before .before .before .either .ensures) (c .before .before .before .before .either2 .ensures)
+          (c .before .before .either3 .ensures) (c .either4 .ensures),
     ))
-    (λ c. sym (zero-end (c .before .before .before .args .bytes .now) _ (c .before .loop .any) (c .loop-test .left)) ∙ c .before .loop .inv .1))
+    (λ c. search needs)
+    (λ c. (search needs, four-all _ _ _ _ (c .before .loop .inv .1) (c .before .loop .inv .0) (c .loop-test .left)))
+    (λ c. search needs)
+    (λ c κs. tt)
+    (λ c. search needs)
+    (λ c. search needs)
+    (λ c. (search needs, each-suc (zeroAt (c .before .before .before .before .before .before .before .args .bytes .now)) (c .before .before .before .loop2 .rest) _ _ (c .before .before .before .loop2 .inv .1) (c .either5 .ensures)))
+    (λ c. zero-all _ _ _ (c .before .loop2 .inv .1) (c .before .loop2 .inv .0) (c .loop2-test .left)))

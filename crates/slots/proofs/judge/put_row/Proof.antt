@@ -1,6 +1,7 @@
--- `slots::judge::put_row` meets its contract: the five stores. Assumes nothing.
+-- `slots::judge::put_row` meets its contract: the six stores. Assumes nothing.
 use mathlib.Core.Path.{refl}
 use borrow.Author.Needs.{needs}
+use native.Mathlib.Nat.{add-zero}
 use Rattle.slots.specs.Table.Laws.Bounds.{putBound, putRow}
 use Rattle.slots.proofs.judge.put_row.Statement.{statement}
 use Rattle.slots.proofs.judge.put_row.Tie as tie
@@ -26,4 +27,6 @@ put-row-spec =
     (λ c. search needs)
     (λ c. search needs)
     (λ c. search needs)
-    (λ c. refl))
+    (λ c. search needs)
+    (λ c. search needs)
+    (λ c. rw add-zero refl))

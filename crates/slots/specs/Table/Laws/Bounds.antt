@@ -1,59 +1,76 @@
 -- A slot judged by bounds of its bytes.
---     isBetween            a byte between a lowest and a highest one
---     putRow, noRows       the bounds at the places of a map's slot, among those of all maps
---     lows, highs          all bounds; zeros after the message
---     isForm               the map is known, and the bytes after it lie between
+--     distanceFrom, isWithin     how far above the lowest byte another lies, and whether that is within a span
+--     putRow, putSpan            the bounds at the places of a map's slot, among those of all maps
+--     lows, spansOf              all bounds; nothing but zeros after the message, and any two bytes after the slot
+--     isForm                     the slot's bytes and the two after it lie within the bounds of its map
+--     isClear, eightAt           eight bytes that are all zero; a slot's bytes and the two after it
 -- proofs/Forms.antt says that such a slot is a used one. Assumes nothing.
-use Prim.Native.Nat.{ℕ, _+_, _-_, _*_}
-use mathlib.Core.Bool.{Bool, false, _&&_, _||_, cond}
+use Prim.Native.Nat.{ℕ, _+_, _-_, _*_, _%_}
+use mathlib.Core.Bool.{Bool, _&&_, _||_, cond}
 use mathlib.Core.List.{List, [], _∷_}
 use lib.Dec.{leb, eqb}
 use lib.ListN.{getD, set, replicate}
 use Rattle.message.specs.declared.Plan.{Plan}
-use Rattle.message.specs.Form.{mapLength}
-use Rattle.slots.specs.Table.{slotSize}
+use Rattle.slots.specs.declared.judge.Lanes.{Lanes}
 
--- 255 as the highest byte is no bound
-unfoldable pub isBetween : ℕ → ℕ → ℕ → Bool
-isBetween low byte high = leb low byte && (leb 255 high || leb byte high)
+-- round past 255
+unfoldable pub distanceFrom : ℕ → ℕ → ℕ
+distanceFrom low byte = cond (leb low byte) (byte - low) (byte + 256 - low)
+
+-- a span up to 255 is no bound
+unfoldable pub isWithin : ℕ → ℕ → ℕ → Bool
+isWithin low byte span =
+    leb 255 span || cond (leb low byte) (leb 255 (low + span) || leb (byte - low) span) (leb (byte + 256 - low) span)
 
 -- one bound of a map, at a place of its slot
-unfoldable pub putBound : List ℕ → ℕ → List ℕ → ℕ → List ℕ
-putBound bounds map row place = set bounds (map * slotSize + place) (getD row place 0)
+unfoldable pub putBound : List ℕ → ℕ → ℕ → ℕ → List ℕ
+putBound bounds map place byte = set bounds (map * 8 + place) byte
 
 unfoldable pub putRow : List ℕ → ℕ → List ℕ → List ℕ
-putRow bounds map row = putBound (putBound (putBound (putBound (putBound bounds map row 1) map row 2) map row 3) map row 4) map row 5
+putRow bounds map row =
+    putBound (putBound (putBound (putBound (putBound (putBound bounds
+    map 0 (getD row 0 0)) map 1 (getD row 1 0)) map 2 (getD row 2 0)) map 3 (getD row 3 0)) map 4 (getD row 4 0)) map 5 (getD row 5 0)
 
-unfoldable pub noRows : List ℕ
-noRows = replicate 192 0
+unfoldable pub putSpan : List ℕ → ℕ → List ℕ → List ℕ
+putSpan bounds map row = putBound (putBound (putRow bounds map row) map 6 255) map 7 255
 
--- the lowest bytes: 1 for a value and for the ballot of a 1a
+-- the lowest bytes: the map itself, 1 for a value and for the ballot of a 1a; 255 in the row of an unknown map
 unfoldable pub lows : List ℕ
 lows =
-    putRow (putRow (putRow (putRow (putRow noRows
-    0x09 (0 ∷ 0 ∷ 1 ∷ 0 ∷ 0 ∷ 0 ∷ []))
-    0x1F (0 ∷ 0 ∷ 0 ∷ 0 ∷ 0 ∷ 1 ∷ []))
-    0x19 (0 ∷ 0 ∷ 0 ∷ 1 ∷ 0 ∷ 0 ∷ []))
-    0x1B (0 ∷ 0 ∷ 0 ∷ 0 ∷ 1 ∷ 0 ∷ []))
+    putRow (putRow (putRow (putRow (putRow (putRow (replicate 256 255)
+    0x09 (0x09 ∷ 0 ∷ 1 ∷ 0 ∷ 0 ∷ 0 ∷ []))
+    0x07 (0x07 ∷ 0 ∷ 0 ∷ 0 ∷ 0 ∷ 0 ∷ []))
+    0x1F (0x1F ∷ 0 ∷ 0 ∷ 0 ∷ 0 ∷ 1 ∷ []))
+    0x19 (0x19 ∷ 0 ∷ 0 ∷ 1 ∷ 0 ∷ 0 ∷ []))
+    0x1B (0x1B ∷ 0 ∷ 0 ∷ 0 ∷ 1 ∷ 0 ∷ []))
+    0x10 (0x10 ∷ 1 ∷ 0 ∷ 0 ∷ 0 ∷ 0 ∷ [])
+
+-- how far above the lowest: up to an instance and an acceptor of the plan, 2 for a value, 255 for a ballot
+unfoldable pub spansOf : Plan → List ℕ
+spansOf p =
+    putSpan (putSpan (putSpan (putSpan (putSpan (putSpan (replicate 256 0)
+    0x09 (0 ∷ (p .rms - 1) ∷ 254 ∷ 0 ∷ 0 ∷ 0 ∷ []))
+    0x07 (0 ∷ (p .rms - 1) ∷ (p .acceptors - 1) ∷ 255 ∷ 0 ∷ 0 ∷ []))
+    0x1F (0 ∷ (p .rms - 1) ∷ (p .acceptors - 1) ∷ 255 ∷ 255 ∷ 1 ∷ []))
+    0x19 (0 ∷ (p .rms - 1) ∷ 255 ∷ 1 ∷ 0 ∷ 0 ∷ []))
+    0x1B (0 ∷ (p .rms - 1) ∷ (p .acceptors - 1) ∷ 255 ∷ 1 ∷ 0 ∷ []))
     0x10 (0 ∷ 1 ∷ 0 ∷ 0 ∷ 0 ∷ 0 ∷ [])
 
--- the highest bytes: an instance and an acceptor of the plan, 2 for a value, 255 for a ballot
-unfoldable pub highs : Plan → List ℕ
-highs p =
-    putRow (putRow (putRow (putRow (putRow (putRow noRows
-    0x09 (0 ∷ (p .rms - 1) ∷ 255 ∷ 0 ∷ 0 ∷ 0 ∷ []))
-    0x07 (0 ∷ (p .rms - 1) ∷ (p .acceptors - 1) ∷ 255 ∷ 0 ∷ 0 ∷ []))
-    0x1F (0 ∷ (p .rms - 1) ∷ (p .acceptors - 1) ∷ 255 ∷ 255 ∷ 2 ∷ []))
-    0x19 (0 ∷ (p .rms - 1) ∷ 255 ∷ 2 ∷ 0 ∷ 0 ∷ []))
-    0x1B (0 ∷ (p .rms - 1) ∷ (p .acceptors - 1) ∷ 255 ∷ 2 ∷ 0 ∷ []))
-    0x10 (0 ∷ 2 ∷ 0 ∷ 0 ∷ 0 ∷ 0 ∷ [])
-
--- the byte of a slot at a place lies between the map's bounds there
+-- the byte at a place lies within the bounds there of the slot's map
 unfoldable pub inBounds : List ℕ → List ℕ → List ℕ → ℕ → Bool
-inBounds low high s place =
-    isBetween (getD low (getD s 0 0 * slotSize + place) 0) (getD s place 0) (getD high (getD s 0 0 * slotSize + place) 0)
+inBounds low span s place =
+    isWithin (getD low (getD s 0 0 % 32 * 8 + place) 0) (getD s place 0) (getD span (getD s 0 0 % 32 * 8 + place) 0)
 
 unfoldable pub isForm : List ℕ → List ℕ → List ℕ → Bool
-isForm low high s =
-    cond (eqb (mapLength (getD s 0 0)) 0) false
-    (inBounds low high s 1 && inBounds low high s 2 && inBounds low high s 3 && inBounds low high s 4 && inBounds low high s 5)
+isForm low span s =
+    inBounds low span s 0 && inBounds low span s 1 && inBounds low span s 2 && inBounds low span s 3
+    && inBounds low span s 4 && inBounds low span s 5 && inBounds low span s 6 && inBounds low span s 7
+
+unfoldable pub isClear : Lanes → Bool
+isClear s =
+    eqb (s .b0) 0 && eqb (s .b1) 0 && eqb (s .b2) 0 && eqb (s .b3) 0 && eqb (s .b4) 0 && eqb (s .b5) 0 && eqb (s .b6) 0 && eqb (s .b7) 0
+
+unfoldable pub eightAt : List ℕ → ℕ → List ℕ
+eightAt t at =
+    getD t at 0 ∷ getD t (at + 1) 0 ∷ getD t (at + 2) 0 ∷ getD t (at + 3) 0
+    ∷ getD t (at + 4) 0 ∷ getD t (at + 5) 0 ∷ getD t (at + 6) 0 ∷ getD t (at + 7) 0 ∷ []

@@ -1,0 +1,28 @@
+-- `slots::judge::spans` meets its contract: the rows one after the other. Assumes nothing.
+use borrow.Author.Needs.{needs}
+use Rattle.message.specs.Plan.Laws.{plan-bounds}
+use Rattle.slots.specs.Table.Laws.Bounds.{spansOf}
+use Rattle.slots.proofs.judge.spans.Statement.{statement}
+use Rattle.slots.proofs.judge.spans.Tie as tie
+
+pub spans-spec : {M : Type 1} → statement M
+unfolding spansOf
+spans-spec =
+    tie.close
+    (tie.spec
+    (λ c. plan-bounds _ (c .before .pre) .rms-least)
+    (λ c. plan-bounds _ (c .before .before .pre) .acceptors-least)
+    (λ c κs. search needs)
+    (λ c κs. search needs)
+    (λ c κs. search needs)
+    (λ c κs. search needs)
+    (λ c κs. search needs)
+    (λ c κs. search needs)
+    (λ c. rw (
+      c .put-span6 .ensures,
+      c .before .before .put-span5 .ensures,
+      c .before .before .before .before .put-span4 .ensures,
+      c .before .before .before .before .before .before .put-span3 .ensures,
+      c .before .before .before .before .before .before .before .before .put-span2 .ensures,
+      c .before .before .before .before .before .before .before .before .before .before .put-span .ensures,
+    )))
