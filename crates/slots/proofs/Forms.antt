@@ -1,7 +1,6 @@
 -- The bounds of a slot's bytes say what the reader says: a slot is a form exactly when it is used.
 --     over-zero, distance-of, within-in     what the code tests of a byte
 --     plan-used                             no slot is used under a plan out of range
---     Bounded, bounded                      bounds made by the code from a plan in range
 --     form-step, last-step                  the slot at a place, with the two bytes after it
 --     none-seen, slot-lanes                 eight tests, each beside what was seen before
 -- Assumes nothing.
@@ -31,7 +30,7 @@ use Rattle.slots.specs.Table.{Slot, Unused, Used, Bad, slotSize, slots, 
 use Rattle.slots.specs.All.{all}
 use Rattle.slots.specs.Table.Scan.{leadingUsed}
 use Rattle.slots.specs.Table.Laws.{readSlot-unused, slotAt}
-use Rattle.slots.specs.Table.Laws.Bounds.{distanceFrom, isWithin, putBound, putRow, putSpan, lows, spansOf, inBounds, isForm, isClear, eightAt}
+use Rattle.slots.specs.Table.Laws.Bounds.{distanceFrom, isWithin, putBound, putRow, lows, spansOf, Bounded, inBounds, isForm, isClear, eightAt}
 use Rattle.slots.specs.Table.Laws.Each.{interchange}
 use Rattle.slots.specs.Table.Laws.Edge.{isUsed, usedAt}
 use Rattle.message.proofs.Guards.{passed}
@@ -172,7 +171,7 @@ module _ (p : Plan) where
 
   -- of a row only the map itself lies within the bounds of the first place
   rows-span : below 32 (λ row. eqb (getD (spansOf p) (row * 8 + 0) 0) 0) ≡ true
-  unfolding below spansOf putSpan putRow putBound
+  unfolding below spansOf putRow putBound
   rows-span = refl
 
   unknown-map : (m : ℕ) → m < 256 → mapLength m ≡ 0
@@ -204,7 +203,7 @@ module _ (p : Plan) where
         ≡ isUsed (readSlot p (map ∷ b1 ∷ b2 ∷ b3 ∷ b4 ∷ b5 ∷ []))
 
     judged-known : (map : ℕ) → (mapLength map ≡ 0 → ⊥) → Judged map
-    unfolding Judged isForm inBounds lows spansOf putSpan putRow putBound mapLength mapLengths
+    unfolding Judged isForm inBounds lows spansOf putRow putBound mapLength mapLengths
         readSlot readMessage refuseIf decode fieldsMessage isZero all isInRange isVote
     judged-known =
         knownMap Judged
@@ -224,12 +223,6 @@ module _ (p : Plan) where
 
     judged : (map : ℕ) → map < 256 → Judged map
     judged map h = elim (ℕ-discrete (mapLength map) 0) [ yes u ↦ judged-none map h u | no k ↦ judged-known map k ]
-
--- the code's bounds are those of the plan, which is in range
-pub record Bounded (p : Plan) (low span : List ℕ) : Type 0 where
-  pub plan : isPlan p ≡ true
-  pub lowest : low ≡ lows
-  pub spans : span ≡ spansOf p
 
 -- the slot at a place, with the two bytes after it
 module _ {p : Plan} {low span : List ℕ} (b : Bounded p low span) (t : List ℕ) (k : ℕ) (h : k < length t / slotSize) where

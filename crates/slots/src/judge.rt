@@ -16,7 +16,7 @@ ghost use lib.Dec.{leb, eqb};
 ghost use lib.ListN.{length, getD};
 ghost use Rattle.message.specs.Plan.{isPlan};
 ghost use Rattle.slots.specs.Table.{slotSize, isZero, isTable};
-ghost use Rattle.slots.specs.Table.Laws.Bounds.{distanceFrom, isWithin, putRow, putSpan, lows, spansOf, isForm, isClear, eightAt};
+ghost use Rattle.slots.specs.Table.Laws.Bounds.{distanceFrom, isWithin, putRow, lows, spansOf, Bounded, isForm, isClear, eightAt};
 ghost use Rattle.slots.specs.Table.Laws.Edge.{Reached, Edge, areUsed};
 use message::Plan;
 use message::SLOT_SIZE;
@@ -55,7 +55,7 @@ const ROW_SIZE: usize = 8;
 
 const BOUNDS: usize = 256;
 
-fn put_row(bounds: &mut [u8; BOUNDS], map: usize, row: [u8; SLOT_SIZE])
+fn put_row(bounds: &mut [u8; BOUNDS], map: usize, row: [u8; ROW_SIZE])
     requires { ⌜ map < 32 ⌝ }
     ensures { λ _. ⌜ now (bounds .exit) ≡ putRow (now (bounds .entry)) map row ⌝ }
 {
@@ -66,15 +66,8 @@ fn put_row(bounds: &mut [u8; BOUNDS], map: usize, row: [u8; SLOT_SIZE])
     bounds[at + 3] = row[3];
     bounds[at + 4] = row[4];
     bounds[at + 5] = row[5];
-}
-
-fn put_span(bounds: &mut [u8; BOUNDS], map: usize, row: [u8; SLOT_SIZE])
-    requires { ⌜ map < 32 ⌝ }
-    ensures { λ _. ⌜ now (bounds .exit) ≡ putSpan (now (bounds .entry)) map row ⌝ }
-{
-    put_row(bounds, map, row);
-    bounds[map * ROW_SIZE + 6] = 255;
-    bounds[map * ROW_SIZE + 7] = 255;
+    bounds[at + 6] = row[6];
+    bounds[at + 7] = row[7];
 }
 
 // The lowest bytes: the map itself, 1 for a value and for the ballot of a 1a, else 0. In the row of an unknown map no byte is a map of that row.
@@ -82,16 +75,16 @@ fn low_bounds() -> [u8; BOUNDS]
     ensures { λ r. ⌜ r ≡ lows ⌝ }
 {
     let mut low = [255u8; BOUNDS];
-    put_row(&mut low, 0x09, [0x09, 0, 1, 0, 0, 0]);
-    put_row(&mut low, 0x07, [0x07, 0, 0, 0, 0, 0]);
-    put_row(&mut low, 0x1F, [0x1F, 0, 0, 0, 0, 1]);
-    put_row(&mut low, 0x19, [0x19, 0, 0, 1, 0, 0]);
-    put_row(&mut low, 0x1B, [0x1B, 0, 0, 0, 1, 0]);
-    put_row(&mut low, 0x10, [0x10, 1, 0, 0, 0, 0]);
+    put_row(&mut low, 0x09, [0x09, 0, 1, 0, 0, 0, 0, 0]);
+    put_row(&mut low, 0x07, [0x07, 0, 0, 0, 0, 0, 0, 0]);
+    put_row(&mut low, 0x1F, [0x1F, 0, 0, 0, 0, 1, 0, 0]);
+    put_row(&mut low, 0x19, [0x19, 0, 0, 1, 0, 0, 0, 0]);
+    put_row(&mut low, 0x1B, [0x1B, 0, 0, 0, 1, 0, 0, 0]);
+    put_row(&mut low, 0x10, [0x10, 1, 0, 0, 0, 0, 0, 0]);
     low
 }
 
-// How far above the lowest a byte may lie: up to an instance and an acceptor of the plan, 2 for a value, 255 for a ballot, and not at all for
+// How far above the lowest a byte may lie: up to an instance and an acceptor of the plan, 2 for a value, 255 for a ballot and after the slot, and not at all for
 // the map and after the message.
 fn spans(plan: Plan) -> [u8; BOUNDS]
     requires { ⌜ isPlan plan ≡ true ⌝ }
@@ -100,12 +93,12 @@ fn spans(plan: Plan) -> [u8; BOUNDS]
     let ins = plan.rms - 1;
     let acc = plan.acceptors - 1;
     let mut span = [0u8; BOUNDS];
-    put_span(&mut span, 0x09, [0, ins, 254, 0, 0, 0]);
-    put_span(&mut span, 0x07, [0, ins, acc, 255, 0, 0]);
-    put_span(&mut span, 0x1F, [0, ins, acc, 255, 255, 1]);
-    put_span(&mut span, 0x19, [0, ins, 255, 1, 0, 0]);
-    put_span(&mut span, 0x1B, [0, ins, acc, 255, 1, 0]);
-    put_span(&mut span, 0x10, [0, 1, 0, 0, 0, 0]);
+    put_row(&mut span, 0x09, [0, ins, 254, 0, 0, 0, 255, 255]);
+    put_row(&mut span, 0x07, [0, ins, acc, 255, 0, 0, 255, 255]);
+    put_row(&mut span, 0x1F, [0, ins, acc, 255, 255, 1, 255, 255]);
+    put_row(&mut span, 0x19, [0, ins, 255, 1, 0, 0, 255, 255]);
+    put_row(&mut span, 0x1B, [0, ins, acc, 255, 1, 0, 255, 255]);
+    put_row(&mut span, 0x10, [0, 1, 0, 0, 0, 0, 255, 255]);
     span
 }
 
@@ -221,16 +214,14 @@ fn edge(table: &[u8]) -> usize
     next_edge(table, near, 1)
 }
 
-// Whether the first slots, this many, hold messages.
-fn are_forms(plan: Plan, table: &[u8], used: usize) -> bool
-    requires { ⌜ (isPlan plan ≡ true) × (used ≤ length (now table) / slotSize) ⌝ }
+// Whether the first slots, this many, hold messages, by the bounds of the plan.
+fn are_forms(plan: Plan, low: &[u8; BOUNDS], span: &[u8; BOUNDS], table: &[u8], used: usize) -> bool
+    requires { ⌜ Bounded plan (now low) (now span) × (used ≤ length (now table) / slotSize) ⌝ }
     ensures { λ r. ⌜ r ≡ areUsed plan (now (table .entry)) used ⌝ }
 {
     if used == 0 {
         return true;
     }
-    let low = low_bounds();
-    let span = spans(plan);
     let last = used - 1;
     let quarter = last / 4;
     let mut seen = Lanes {
@@ -249,20 +240,20 @@ fn are_forms(plan: Plan, table: &[u8], used: usize) -> bool
         let second = first + quarter * SLOT_SIZE;
         let third = second + quarter * SLOT_SIZE;
         let fourth = third + quarter * SLOT_SIZE;
-        seen = add_slot(seen, &low, &span, table, first);
-        seen = add_slot(seen, &low, &span, table, second);
-        seen = add_slot(seen, &low, &span, table, third);
-        seen = add_slot(seen, &low, &span, table, fourth);
+        seen = add_slot(seen, low, span, table, first);
+        seen = add_slot(seen, low, span, table, second);
+        seen = add_slot(seen, low, span, table, third);
+        seen = add_slot(seen, low, span, table, fourth);
         place += 1;
     }
     let mut rest = 4 * quarter;
     while rest < last {
         let from = rest * SLOT_SIZE;
-        seen = add_slot(seen, &low, &span, table, from);
+        seen = add_slot(seen, low, span, table, from);
         rest += 1;
     }
     let slot = last_slot(table, last * SLOT_SIZE);
-    seen = add_slot(seen, &low, &span, &slot, 0);
+    seen = add_slot(seen, low, span, &slot, 0);
     is_clear(seen)
 }
 
@@ -278,8 +269,10 @@ pub fn is_table(plan: Plan, table: &[u8]) -> bool
     if !message::is_plan(plan) {
         return is_zero(&table[..to]);
     }
+    let low = low_bounds();
+    let span = spans(plan);
     let used = edge(table);
-    if !are_forms(plan, table, used) {
+    if !are_forms(plan, &low, &span, table, used) {
         return false;
     }
     is_zero(&table[used * SLOT_SIZE..to])

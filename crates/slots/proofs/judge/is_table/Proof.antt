@@ -25,11 +25,20 @@ is-table-spec =
     (λ c κs. tt)
     (λ c. c .is-zero2 .ensures ∙ sym (isTable-none _ _ (plan-used _ (failed (c .before .before .before .is-plan .ensures) (c .before .before .if2 .taken)) _)))
     (λ c κs. tt)
-    (λ c κs. (passed (c .before .before .is-plan .ensures) (c .before .if2 .left), c .edge .ensures .0 .within))
-    (λ c. edge-bad _ _ _ (c .before .before .edge .ensures .0) (c .before .before .edge .ensures .1) (sym (c .before .are-forms .ensures) ∙ not-true _ (c .if3 .taken)))
-    (λ c. omega (arith, c .before .before .edge .ensures .0 .within))
-    (λ c. omega (arith, c .before .before .edge .ensures .0 .within))
-    (λ c. omega (arith, c .before .before .edge .ensures .0 .within))
+    (λ c κs. passed (c .before .before .is-plan .ensures) (c .before .if2 .left))
+    (λ c κs. tt)
+    (λ c κs. (
+      record {
+        plan = passed (c .before .before .before .before .before .before .is-plan .ensures) (c .before .before .before .before .before .if2 .left);
+        lowest = c .before .before .before .before .low-bounds .ensures;
+        spans = c .before .before .before .spans .ensures;
+      },
+      c .before .before .edge .ensures .0 .within,
+    ))
+    (λ c. edge-bad _ _ _ (c .before .before .before .before .edge .ensures .0) (c .before .before .before .before .edge .ensures .1) (sym (c .before .are-forms .ensures) ∙ not-true _ (c .if3 .taken)))
+    (λ c. omega (arith, c .before .before .before .before .edge .ensures .0 .within))
+    (λ c. omega (arith, c .before .before .before .before .edge .ensures .0 .within))
+    (λ c. omega (arith, c .before .before .before .before .edge .ensures .0 .within))
     (λ c. search needs)
     (λ c κs. tt)
-    (λ c. c .is-zero3 .ensures ∙ sym (edge-good _ _ _ (c .before .before .before .before .edge .ensures .0) (c .before .before .before .before .edge .ensures .1) (sym (c .before .before .before .are-forms .ensures) ∙ not-false _ (c .before .before .if3 .left)))))
+    (λ c. c .is-zero3 .ensures ∙ sym (edge-good _ _ _ (c .before .before .before .before .before .before .edge .ensures .0) (c .before .before .before .before .before .before .edge .ensures .1) (sym (c .before .before .before .are-forms .ensures) ∙ not-false _ (c .before .before .if3 .left)))))

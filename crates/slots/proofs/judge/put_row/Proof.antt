@@ -1,4 +1,4 @@
--- `slots::judge::put_row` meets its contract: the six stores. Assumes nothing.
+-- `slots::judge::put_row` meets its contract: the eight stores. Assumes nothing.
 use mathlib.Core.Path.{refl}
 use borrow.Author.Needs.{needs}
 use native.Mathlib.Nat.{add-zero}
@@ -11,6 +11,12 @@ unfolding putRow putBound
 put-row-spec =
     tie.close
     (tie.spec
+    (λ c. search needs)
+    (λ c. search needs)
+    (λ c. search needs)
+    (λ c. search needs)
+    (λ c. search needs)
+    (λ c. search needs)
     (λ c. search needs)
     (λ c. search needs)
     (λ c. search needs)

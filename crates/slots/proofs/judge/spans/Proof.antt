@@ -19,10 +19,10 @@ spans-spec =
     (λ c κs. search needs)
     (λ c κs. search needs)
     (λ c. rw (
-      c .put-span6 .ensures,
-      c .before .before .put-span5 .ensures,
-      c .before .before .before .before .put-span4 .ensures,
-      c .before .before .before .before .before .before .put-span3 .ensures,
-      c .before .before .before .before .before .before .before .before .put-span2 .ensures,
-      c .before .before .before .before .before .before .before .before .before .before .put-span .ensures,
+      c .put-row6 .ensures,
+      c .before .before .put-row5 .ensures,
+      c .before .before .before .before .put-row4 .ensures,
+      c .before .before .before .before .before .before .put-row3 .ensures,
+      c .before .before .before .before .before .before .before .before .put-row2 .ensures,
+      c .before .before .before .before .before .before .before .before .before .before .put-row .ensures,
     )))

@@ -1,16 +1,18 @@
 -- A slot judged by bounds of its bytes.
 --     distanceFrom, isWithin     how far above the lowest byte another lies, and whether that is within a span
---     putRow, putSpan            the bounds at the places of a map's slot, among those of all maps
---     lows, spansOf              all bounds; nothing but zeros after the message, and any two bytes after the slot
+--     putRow                     the bounds at the places of a map's slot, among those of all maps
+--     lows, spansOf, Bounded     all bounds; nothing but zeros after the message, and any two bytes after the slot
 --     isForm                     the slot's bytes and the two after it lie within the bounds of its map
 --     isClear, eightAt           eight bytes that are all zero; a slot's bytes and the two after it
 -- proofs/Forms.antt says that such a slot is a used one. Assumes nothing.
 use Prim.Native.Nat.{ℕ, _+_, _-_, _*_, _%_}
-use mathlib.Core.Bool.{Bool, _&&_, _||_, cond}
+use mathlib.Core.Bool.{Bool, true, _&&_, _||_, cond}
 use mathlib.Core.List.{List, [], _∷_}
+use mathlib.Core.Path.{_≡_}
 use lib.Dec.{leb, eqb}
 use lib.ListN.{getD, set, replicate}
 use Rattle.message.specs.declared.Plan.{Plan}
+use Rattle.message.specs.Plan.{isPlan}
 use Rattle.slots.specs.declared.judge.Lanes.{Lanes}
 
 -- round past 255
@@ -28,33 +30,37 @@ putBound bounds map place byte = set bounds (map * 8 + place) byte
 
 unfoldable pub putRow : List ℕ → ℕ → List ℕ → List ℕ
 putRow bounds map row =
-    putBound (putBound (putBound (putBound (putBound (putBound bounds
-    map 0 (getD row 0 0)) map 1 (getD row 1 0)) map 2 (getD row 2 0)) map 3 (getD row 3 0)) map 4 (getD row 4 0)) map 5 (getD row 5 0)
-
-unfoldable pub putSpan : List ℕ → ℕ → List ℕ → List ℕ
-putSpan bounds map row = putBound (putBound (putRow bounds map row) map 6 255) map 7 255
+    putBound (putBound (putBound (putBound (putBound (putBound (putBound (putBound bounds
+    map 0 (getD row 0 0)) map 1 (getD row 1 0)) map 2 (getD row 2 0)) map 3 (getD row 3 0)) map 4 (getD row 4 0)) map 5 (getD row 5 0))
+    map 6 (getD row 6 0)) map 7 (getD row 7 0)
 
 -- the lowest bytes: the map itself, 1 for a value and for the ballot of a 1a; 255 in the row of an unknown map
 unfoldable pub lows : List ℕ
 lows =
     putRow (putRow (putRow (putRow (putRow (putRow (replicate 256 255)
-    0x09 (0x09 ∷ 0 ∷ 1 ∷ 0 ∷ 0 ∷ 0 ∷ []))
-    0x07 (0x07 ∷ 0 ∷ 0 ∷ 0 ∷ 0 ∷ 0 ∷ []))
-    0x1F (0x1F ∷ 0 ∷ 0 ∷ 0 ∷ 0 ∷ 1 ∷ []))
-    0x19 (0x19 ∷ 0 ∷ 0 ∷ 1 ∷ 0 ∷ 0 ∷ []))
-    0x1B (0x1B ∷ 0 ∷ 0 ∷ 0 ∷ 1 ∷ 0 ∷ []))
-    0x10 (0x10 ∷ 1 ∷ 0 ∷ 0 ∷ 0 ∷ 0 ∷ [])
+    0x09 (0x09 ∷ 0 ∷ 1 ∷ 0 ∷ 0 ∷ 0 ∷ 0 ∷ 0 ∷ []))
+    0x07 (0x07 ∷ 0 ∷ 0 ∷ 0 ∷ 0 ∷ 0 ∷ 0 ∷ 0 ∷ []))
+    0x1F (0x1F ∷ 0 ∷ 0 ∷ 0 ∷ 0 ∷ 1 ∷ 0 ∷ 0 ∷ []))
+    0x19 (0x19 ∷ 0 ∷ 0 ∷ 1 ∷ 0 ∷ 0 ∷ 0 ∷ 0 ∷ []))
+    0x1B (0x1B ∷ 0 ∷ 0 ∷ 0 ∷ 1 ∷ 0 ∷ 0 ∷ 0 ∷ []))
+    0x10 (0x10 ∷ 1 ∷ 0 ∷ 0 ∷ 0 ∷ 0 ∷ 0 ∷ 0 ∷ [])
 
--- how far above the lowest: up to an instance and an acceptor of the plan, 2 for a value, 255 for a ballot
+-- how far above the lowest: up to an instance and an acceptor of the plan, 2 for a value, 255 for a ballot and after the slot
 unfoldable pub spansOf : Plan → List ℕ
 spansOf p =
-    putSpan (putSpan (putSpan (putSpan (putSpan (putSpan (replicate 256 0)
-    0x09 (0 ∷ (p .rms - 1) ∷ 254 ∷ 0 ∷ 0 ∷ 0 ∷ []))
-    0x07 (0 ∷ (p .rms - 1) ∷ (p .acceptors - 1) ∷ 255 ∷ 0 ∷ 0 ∷ []))
-    0x1F (0 ∷ (p .rms - 1) ∷ (p .acceptors - 1) ∷ 255 ∷ 255 ∷ 1 ∷ []))
-    0x19 (0 ∷ (p .rms - 1) ∷ 255 ∷ 1 ∷ 0 ∷ 0 ∷ []))
-    0x1B (0 ∷ (p .rms - 1) ∷ (p .acceptors - 1) ∷ 255 ∷ 1 ∷ 0 ∷ []))
-    0x10 (0 ∷ 1 ∷ 0 ∷ 0 ∷ 0 ∷ 0 ∷ [])
+    putRow (putRow (putRow (putRow (putRow (putRow (replicate 256 0)
+    0x09 (0 ∷ (p .rms - 1) ∷ 254 ∷ 0 ∷ 0 ∷ 0 ∷ 255 ∷ 255 ∷ []))
+    0x07 (0 ∷ (p .rms - 1) ∷ (p .acceptors - 1) ∷ 255 ∷ 0 ∷ 0 ∷ 255 ∷ 255 ∷ []))
+    0x1F (0 ∷ (p .rms - 1) ∷ (p .acceptors - 1) ∷ 255 ∷ 255 ∷ 1 ∷ 255 ∷ 255 ∷ []))
+    0x19 (0 ∷ (p .rms - 1) ∷ 255 ∷ 1 ∷ 0 ∷ 0 ∷ 255 ∷ 255 ∷ []))
+    0x1B (0 ∷ (p .rms - 1) ∷ (p .acceptors - 1) ∷ 255 ∷ 1 ∷ 0 ∷ 255 ∷ 255 ∷ []))
+    0x10 (0 ∷ 1 ∷ 0 ∷ 0 ∷ 0 ∷ 0 ∷ 255 ∷ 255 ∷ [])
+
+-- the bounds of a plan, which is in range
+pub record Bounded (p : Plan) (low span : List ℕ) : Type 0 where
+  pub plan : isPlan p ≡ true
+  pub lowest : low ≡ lows
+  pub spans : span ≡ spansOf p
 
 -- the byte at a place lies within the bounds there of the slot's map
 unfoldable pub inBounds : List ℕ → List ℕ → List ℕ → ℕ → Bool
