@@ -1,13 +1,14 @@
 -- From the flags, the bits of a number, to the answers of Decided.
 --     bad-plan                      a plan out of range decides nothing
 --     good-plan                     one in range leaves the rest to decide
+--     none-decided                  no message decides nothing
 --     rms-bound, some-low           the plan's flags fit a word
 --     flags-early, flags-end        the code's test, while messages are ahead, and at the end
 -- Assumes nothing.
 use Prim.Native.Nat.{ℕ, _-_, _*_, _%_, _^_, _≤_, _<_}
 use mathlib.Core.Bool.{Bool, true, false, _&&_, cond}
 use mathlib.Core.List.{List, []}
-use mathlib.Core.Path.{_≡_, sym, _∙_, ap}
+use mathlib.Core.Path.{_≡_, refl, sym, _∙_, ap}
 use native.Mathlib.Omega.{arith}
 use lib.Dec.{leb}
 use lib.Pow.{pow-pos}
@@ -18,9 +19,9 @@ use Rattle.message.specs.Plan.{isPlan}
 use Rattle.message.specs.Plan.Laws.{plan-bounds}
 use Rattle.quorum.specs.Mask.{hasBit}
 use Rattle.quorum.specs.Mask.Laws.{bit-value-32}
-use Rattle.inbox.specs.Inbox.{decided}
+use Rattle.inbox.specs.Inbox.{any, decided}
 use Rattle.inbox.specs.Inbox.Votes.{Tally, Counts, counts-early, counts-end}
-use Rattle.inbox.specs.Inbox.Bits.{quantify, quantify-ext, quantify-grows, quantify-bits}
+use Rattle.inbox.specs.Inbox.Bits.{quantify, quantify-ext, quantify-grows, quantify-none, quantify-bits}
 
 pub bad-plan : (p : Plan) → isPlan p ≡ false → (t : Bool) → false ≡ (isPlan p && t)
 bad-plan p h t = sym (ap (λ (s : Bool). s && t) h)
@@ -34,6 +35,10 @@ module _ (p : Plan) (plan : isPlan p ≡ true) where
 
   pub some-low : 1 ≤ 1 * 2 ^ p .rms % 4294967296
   some-low = rw (bit-value-32 (p .rms) rms-bound) (pow-pos (p .rms))
+
+  pub none-decided : (some : Bool) (v : ℕ) (ms : List Message) → ms ≡ [] → false ≡ quantify some (p .rms) (λ i. decided p ms i v)
+  unfolding decided any
+  none-decided some v ms e = sym (rw e (quantify-none some (p .rms) (λ i. decided p [] i v) (plan-bounds p plan .rms-least) (λ i. refl)))
 
   module _ (some : Bool) (least : ℕ) (of-least : least ≡ cond some 1 (1 * 2 ^ p .rms % 4294967296 - 1))
       (v : ℕ) (ms : List Message) (s : Tally) (here : List Message) (inv : Counts p v ms s here) where

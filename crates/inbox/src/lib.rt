@@ -4,10 +4,11 @@
 //     is_decided_all, is_decided_some       Decided(i, value) for all instances of the plan, and for some
 //
 // What each of them means stands in specs/. No public function has a `requires`, and none looks past the inbox.
-ghost use mathlib.Core.Bool.{true, _&&_, cond};
+ghost use mathlib.Core.Bool.{true, _&&_, _||_, cond};
 ghost use mathlib.Core.List.{[]};
 ghost use mathlib.Core.Path.{_≡_};
-ghost use Prim.Native.Nat.{_+_, _*_, _≤_, _<_};
+ghost use Prim.Native.Nat.{_+_, _*_, _/_, _≤_, _<_};
+ghost use lib.Dec.{eqb};
 ghost use lib.ListN.{length, replicate};
 ghost use Rattle.message.specs.Plan.{isPlan};
 ghost use Rattle.slots.specs.Table.{slotSize};
@@ -17,6 +18,7 @@ ghost use Rattle.quorum.specs.Mask.{insertBit};
 ghost use Rattle.inbox.specs.Inbox.{higher, decided, forAll, forSome, reportsOf};
 ghost use Rattle.inbox.specs.Inbox.Slots.{messageAt};
 ghost use Rattle.inbox.specs.Inbox.Reports.{reportStep, Gathers};
+ghost use Rattle.inbox.specs.Inbox.Candidates.{isCandidate, candidateStart, Starts, Skippable};
 ghost use Rattle.inbox.specs.Inbox.Votes.{tally, voteStep};
 ghost use Rattle.inbox.specs.Inbox.Bits.{quantify};
 use message::Plan;
@@ -95,20 +97,112 @@ fn report_step(inbox: &[u8], at: usize, instance: u8, ballot: u8, seen: Gathered
     seen
 }
 
+// So many slots, and so many bytes, are tested together without a branch.
+const BLOCK: usize = 16;
+
+const BLOCK_SIZE: usize = 96;
+
+fn lower(a: u8, b: u8) -> u8
+    ensures { λ r. ⌜ eqb r 0 ≡ (eqb a 0 || eqb b 0) ⌝ }
+{
+    if b < a {
+        return b;
+    }
+    a
+}
+
+// Zero exactly where a slot with these first bytes is a candidate: it is unused, or may be a 1b or a 2a of the instance and ballot.
+fn mismatch(b0: u8, b1: u8, b2: u8, b3: u8, instance: u8, ballot: u8) -> u8
+    ensures { λ r. ⌜ eqb r 0 ≡ isCandidate instance ballot b0 b1 b2 b3 ⌝ }
+{
+    lower(b0, (b1 ^ instance) | lower(b2 ^ ballot, b3 ^ ballot))
+}
+
+// For each byte of a block: zero where a slot begins.
+fn slot_starts() -> [u8; BLOCK_SIZE]
+    ensures { λ r. ⌜ Starts r ⌝ }
+{
+    let mut starts = [255u8; BLOCK_SIZE];
+    let mut place = 0;
+    while place < BLOCK {
+        starts[place * SLOT_SIZE] = 0;
+        place += 1;
+    }
+    starts
+}
+
+// Zero exactly where a slot of the block is a candidate.
+fn least_mismatch(
+    inbox: &[u8],
+    at: usize,
+    starts: &[u8; BLOCK_SIZE],
+    instance: u8,
+    ballot: u8,
+) -> u8
+    requires { ⌜ at + 99 ≤ length (now inbox) ⌝ }
+    ensures { λ r. ⌜ eqb r 0 ≡ forSome 96 (candidateStart instance ballot (now (inbox .entry)) at (now (starts .entry))) ⌝ }
+{
+    let mut least = 255;
+    let mut i = 0;
+    while i < BLOCK_SIZE {
+        let k = at + i;
+        let next = mismatch(
+            inbox[k],
+            inbox[k + 1],
+            inbox[k + 2],
+            inbox[k + 3],
+            instance,
+            ballot,
+        );
+        least = lower(next | starts[i], least);
+        i += 1;
+    }
+    least
+}
+
+// The place after the block where it is whole and has no candidate; else the same place.
+fn skip_block(
+    inbox: &[u8],
+    place: usize,
+    starts: &[u8; BLOCK_SIZE],
+    instance: u8,
+    ballot: u8,
+) -> usize
+    requires { ⌜ (place ≤ length (now inbox) / slotSize) × Starts (now starts) ⌝ }
+    ensures { λ r. ⌜ Skippable instance ballot (now (inbox .entry)) place r ⌝ }
+{
+    let at = place * SLOT_SIZE;
+    if inbox.len() - at < BLOCK_SIZE + 3 {
+        return place;
+    }
+    if least_mismatch(inbox, at, starts, instance, ballot) == 0 {
+        return place;
+    }
+    place + BLOCK
+}
+
+// The first block is passed slot by slot, and each later one only where it has a candidate; `due` is where the next block is tested.
 fn gather(inbox: &[u8], instance: u8, ballot: u8) -> Gathered
     ensures { λ r. ⌜ Gathers instance ballot (leadingMessages (peekTable (now (inbox .entry)))) r [] ⌝ }
 {
     let count = inbox.len() / SLOT_SIZE;
+    let starts = slot_starts();
     let mut seen = Gathered {
         proposed: false,
         mask: 0,
         vote: Vote::None,
     };
+    let mut due = BLOCK;
     let mut place = 0;
     while place < count {
         let at = place * SLOT_SIZE;
         if inbox[at] == 0 {
             return seen;
+        }
+        if due <= place {
+            due = place + BLOCK;
+            place = skip_block(inbox, place, &starts, instance, ballot);
+            continue;
         }
         seen = report_step(inbox, at, instance, ballot, seen);
         place += 1;
@@ -215,11 +309,18 @@ fn gather_votes(plan: Plan, inbox: &[u8], value: u8, some: bool, masks: &mut [u8
     least <= flags
 }
 
-// Whether Decided(i, value) for some instance of the plan, or for all.
+// Whether Decided(i, value) for some instance of the plan, or for all. Without a message nothing is decided, and no set is made.
 fn is_decided(plan: Plan, inbox: &[u8], value: u8, some: bool) -> bool
     requires { ⌜ isPlan plan ≡ true ⌝ }
     ensures { λ r. ⌜ r ≡ quantify some (plan .rms) (λ i. decided plan (leadingMessages (peekTable (now (inbox .entry)))) i value) ⌝ }
 {
+    let count = inbox.len() / SLOT_SIZE;
+    if count == 0 {
+        return false;
+    }
+    if inbox[0] == 0 {
+        return false;
+    }
     let mut masks = [0u8; 4096];
     gather_votes(plan, inbox, value, some, &mut masks)
 }

@@ -1,6 +1,7 @@
 -- Flags as the bits of a number: for all, and for some, of the numbers below a count.
 --     quantify                        for some, or for all
 --     quantify-ext, quantify-grows    tests that agree below the count, and one that passes where the other does
+--     quantify-none                   a test that nothing passes
 --     quantify-bits                   the test on the number that the code makes
 -- Assumes nothing.
 use Prim.Native.Nat.{ℕ, zero, suc, _+_, _-_, _*_, _/_, _%_, _^_, _≤_, _<_}
@@ -41,6 +42,17 @@ quantify-ext true zero f g h = refl
 quantify-ext true (suc count) f g h = ap₂ _||_ (h count (le-refl _)) (quantify-ext true count f g (λ i k. h i (omega arith)))
 quantify-ext false zero f g h = refl
 quantify-ext false (suc count) f g h = ap₂ _&&_ (h count (le-refl _)) (quantify-ext false count f g (λ i k. h i (omega arith)))
+
+some-none : (count : ℕ) (f : ℕ → Bool) → ((i : ℕ) → f i ≡ false) → forSome count f ≡ false
+unfolding forSome
+some-none zero f h = refl
+some-none (suc count) f h = rw (h count) (some-none count f h)
+
+pub quantify-none : (some : Bool) (count : ℕ) (f : ℕ → Bool) → 0 < count → ((i : ℕ) → f i ≡ false) → quantify some count f ≡ false
+unfolding quantify forAll
+quantify-none true count f l h = some-none count f h
+quantify-none false zero f l h = absurd (omega arith)
+quantify-none false (suc count) f l h = rw (h count)
 
 one-more : (k : ℕ) → 1 + k ≡ suc k
 one-more k = add-comm 1 k ∙ add-one k
