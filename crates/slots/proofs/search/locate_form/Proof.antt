@@ -61,19 +61,25 @@ locate-form-spec =
     (c .before .differ .ensures) (c .if2 .taken)) ∙
     c .before .before .before .before .before .before .before .before .before .before .before .before .before .loop .inv .1)
     (λ c. search needs)
+    (λ c κs. (
+      c .before .before .before .before .before .before .before .before .before .before .before .before .before .before .before .before .before .before .before .before .before .before
+          .before .pre,
+      search needs,
+    ))
     (λ c. search needs)
     (λ c. (
-      search needs,
-      locate-next _ _ _
-          (c .before .before .before .before .before .before .before .before .before .before .before .before .loop-test .taken)
-          (c .before .before .before .before .before .before .before .before .before .before .before .before .before .before .before .before
-          .before .before .before .before .before .before .before .pre) _ _ _ _ (c .before .differ .result)
-          (c .before .before .before .before .before .before .before .before .before .before .before .before .before .before .before .before
+      c .skip .ensures .1,
+      c .skip .ensures .2
+          ∙ locate-next _ _ _
+          (c .before .before .before .before .before .before .before .before .before .before .before .before .before .loop-test .taken)
+          (c .before .before .before .before .before .before .before .before .before .before .before .before .before .before .before .before .before
+          .before .before .before .before .before .before .before .pre) _ _ _ _ (c .before .before .differ .result)
+          (c .before .before .before .before .before .before .before .before .before .before .before .before .before .before .before .before .before
           .before .before .before .word .ensures)
-          (c .before .before .before .before .before .before .before .before .before .before .before .before .before .before .word2 .ensures)
-          (c .before .before .before .before .before .before .before .before .before .before .if1 .left)
-          (c .before .before .before .before .before .before .before .word3 .ensures) (c .before .before .word4 .ensures)
-          (c .before .differ .ensures) (c .if2 .left) ∙
-          c .before .before .before .before .before .before .before .before .before .before .before .before .before .loop .inv .1,
+          (c .before .before .before .before .before .before .before .before .before .before .before .before .before .before .before .word2 .ensures)
+          (c .before .before .before .before .before .before .before .before .before .before .before .if1 .left)
+          (c .before .before .before .before .before .before .before .before .word3 .ensures) (c .before .before .before .word4 .ensures)
+          (c .before .before .differ .ensures) (c .before .if2 .left) ∙
+          c .before .before .before .before .before .before .before .before .before .before .before .before .before .before .loop .inv .1,
     ))
     (λ c. sym (locate-end _ _ _ (c .loop-test .left)) ∙ c .before .loop .inv .1))

@@ -1,15 +1,18 @@
 -- Bytes as one number.
 --     Word                      the number of four bytes, and each byte as a digit of it
 --     word-same, word-other     the two numbers of six bytes are the same exactly when the bytes are
+--     word-differs              six bytes differ where the number of the first four does
+--     WordAt, Common            the number of the first bytes of a slot; what four lowest bytes share
 -- Assumes nothing.
 use Prim.Native.Nat.{ℕ, _+_, _*_, _/_, _%_}
 use mathlib.Core.Bool.{true, false, _&&_}
 use mathlib.Core.List.{List, [], _∷_}
 use mathlib.Core.Path.{_≡_, sym, _∙_}
 use lib.Dec.{eqb}
+use lib.ListN.{getD}
 use borrow.Author.Tests.{eq-eqb, eqb-true}
 use Rattle.message.specs.Outcome.Laws.{both}
-use Rattle.slots.specs.Table.{sameBytes}
+use Rattle.slots.specs.Table.{slotSize, sameBytes}
 use Rattle.slots.specs.Table.Scan.Laws.{sameBytes-refl, sameBytes-false}
 
 pub record Word (b0 b1 b2 b3 r : ℕ) : Type 0 where
@@ -18,6 +21,18 @@ pub record Word (b0 b1 b2 b3 r : ℕ) : Type 0 where
   pub digit1 : r / 0x100 % 0x100 ≡ b1
   pub digit2 : r / 0x10000 % 0x100 ≡ b2
   pub digit3 : r / 0x1000000 ≡ b3
+
+-- the number of the first four bytes of the slot at `place`
+abbrev pub WordAt : List ℕ → ℕ → ℕ → Type 0
+WordAt t place r =
+    Word (getD t (place * slotSize) 0) (getD t (place * slotSize + 1) 0) (getD t (place * slotSize + 2) 0) (getD t (place * slotSize + 3) 0) r
+
+-- nothing is left where the lowest byte of one of the four is zero
+pub record Common (a b c d r : ℕ) : Type 0 where
+  pub first : a % 0x100 ≡ 0 → r ≡ 0
+  pub second : b % 0x100 ≡ 0 → r ≡ 0
+  pub third : c % 0x100 ≡ 0 → r ≡ 0
+  pub fourth : d % 0x100 ≡ 0 → r ≡ 0
 
 -- six bytes as two numbers; `d` is what the code makes of the two pairs
 module _ {a0 a1 a2 a3 a4 a5 b0 b1 b2 b3 b4 b5 h k t u : ℕ}
@@ -40,3 +55,11 @@ module _ {a0 a1 a2 a3 a4 a5 b0 b1 b2 b3 b4 b5 h k t u : ℕ}
     pub word-other : (d ≡ 0 → ⊥) → sameBytes (a0 ∷ a1 ∷ a2 ∷ a3 ∷ a4 ∷ a5 ∷ []) (b0 ∷ b1 ∷ b2 ∷ b3 ∷ b4 ∷ b5 ∷ []) ≡ false
     word-other n =
         sameBytes-false _ _ (λ p. n (eqb-true d 0 (e ∙ rw (eq-eqb h k (same-front p), eq-eqb t u (same-back p)))))
+
+-- six bytes that differ in the first four
+pub word-differs : {a0 a1 a2 a3 b0 b1 b2 b3 h k : ℕ} (a4 a5 b4 b5 : ℕ) → Word a0 a1 a2 a3 h → Word b0 b1 b2 b3 k → (h ≡ k → ⊥)
+    → sameBytes (a0 ∷ a1 ∷ a2 ∷ a3 ∷ a4 ∷ a5 ∷ []) (b0 ∷ b1 ∷ b2 ∷ b3 ∷ b4 ∷ b5 ∷ []) ≡ false
+word-differs {a0} {a1} {a2} {a3} {b0} {b1} {b2} {b3} {h} {k} a4 a5 b4 b5 w x n = sameBytes-false _ _ (λ p. n (same p))
+  where
+    same : _≡_ {A = List ℕ} (a0 ∷ a1 ∷ a2 ∷ a3 ∷ a4 ∷ a5 ∷ []) (b0 ∷ b1 ∷ b2 ∷ b3 ∷ b4 ∷ b5 ∷ []) → h ≡ k
+    same p = cc
