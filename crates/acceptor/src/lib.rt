@@ -1,13 +1,16 @@
 // The step of an acceptor, kind 3, as a call by itself: Phase1b and Phase2b of document 001. It is lent Q and N.
 //
-//     are_votes              row 4 of "Refusals by place"
+//     are_votes              row 4 of "Refusals by place", in votes.rt
 //     judge                  the plan and both tables
 //     evaluate, perform      what an event comes to, and that stored (see the crate change)
 //     step                   the whole call
 ghost use mathlib.Core.Path.{_≡_};
 ghost use Rattle.slots.specs.View.Bytes.{viewBytes};
 ghost use Rattle.change.specs.Change.{verdictOutcome, judgedOutcome, stepOf, applied};
-ghost use Rattle.acceptor.specs.Acceptor.{isVoteState, areVotes, acceptorJudged, voteOf, voteAt, phase1b, phase2b, acceptorReceive, acceptorVerdict, acceptorStep};
+ghost use Rattle.acceptor.specs.Acceptor.{acceptorJudged, voteOf, voteAt, phase1b, phase2b, acceptorReceive, acceptorVerdict, acceptorStep};
+
+mod votes;
+
 use change::Answer;
 use change::Change;
 use change::Judged;
@@ -19,6 +22,7 @@ use message::Plan;
 use message::Read;
 use message::Vote;
 use slots::Send;
+pub use votes::are_votes;
 
 // The vote report of a last vote: none where the value is 0.
 fn vote_of(bal: u8, val: u8) -> Vote
@@ -156,36 +160,6 @@ pub fn perform(plan: Plan, votes: &mut [u8], network: &mut [u8], event: &[u8]) -
 {
     let verdict = evaluate(plan, votes, network, event);
     change::apply(plan, votes, network, verdict)
-}
-
-fn is_vote_state(bal: u8, val: u8) -> bool
-    ensures { λ r. ⌜ r ≡ isVoteState bal val ⌝ }
-{
-    if 2 < val {
-        return false;
-    }
-    if 1 <= val {
-        return true;
-    }
-    if bal != 0 {
-        return false;
-    }
-    true
-}
-
-// Whether every place of Q is in order: val 1, 2, or 0 with bal 0. Where one is not, 4.
-pub fn are_votes(votes: &[u8]) -> bool
-    ensures { λ r. ⌜ r ≡ areVotes (now (votes .entry)) ⌝ }
-{
-    let len = votes.len();
-    let mut i = 0;
-    while 2 < len - i {
-        if !is_vote_state(votes[i + 1], votes[i + 2]) {
-            return false;
-        }
-        i += 3;
-    }
-    true
 }
 
 // The plan, the lengths, Q and N: 1, 2, 4 or 5.

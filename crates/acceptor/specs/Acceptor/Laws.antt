@@ -2,7 +2,8 @@
 --     bytes-bound, voteAt-bound                      a product of two bytes and a place of Q are small, so the code's numbers fit
 --     areVotes-step, areVotes-stop, areVotes-end     one place further: it is in order, it is not, there is none
 --     areVotes-at, areVotes-set                      a place of Q in order, and Q after one place was written
--- Assumes nothing.
+-- Laws/Lanes.antt has many places tested at a time. Assumes nothing.
+pub mod Lanes
 use Prim.Native.Nat.{ℕ, zero, suc, _+_, _*_, _-_, _≤_, _<_}
 use native.Mathlib.Nat.{mul-le-mul}
 use native.Mathlib.Omega.{arith}
