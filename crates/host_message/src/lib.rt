@@ -7,9 +7,11 @@
 ghost use Prim.Native.Nat.{_<_};
 ghost use mathlib.Core.List.{_∷_};
 ghost use mathlib.Core.Path.{_≡_};
+ghost use lib.ListN.{length, getD};
+ghost use Rattle.message.specs.Form.{mapLength, decode};
 ghost use Rattle.message.specs.Codec.{readOutcome, readMessage};
 ghost use Rattle.host_code.specs.Code.{planOf, packed};
-ghost use Rattle.host_message.specs.Code.{fieldsOf1b, fieldsOf, messageOf, readCode, hostWrite, writtenCode};
+ghost use Rattle.host_message.specs.Code.{fieldsOf, messageOf, readCode, hostWrite, writtenCode};
 use host_code::pack;
 use message::Message;
 use message::Plan;
@@ -17,41 +19,29 @@ use message::Read;
 use message::Vote;
 use message::Written;
 
-fn code_1b(ins: u8, acc: u8, mbal: u8, vote: Vote) -> u64
-    ensures { λ r. ⌜ r ≡ packed (0 ∷ fieldsOf1b ins acc mbal vote) ⌝ }
+// The number of a message's bytes: 0, the map, and ins, acc, mbal, bal and val, 0 for one that the message does not have. Each field is
+// read straight from its place.
+fn message_code(bytes: &[u8]) -> u64
+    requires { ⌜ length (now bytes) ≡ mapLength (getD (now bytes) 0 0) ⌝ }
+    ensures { λ r. ⌜ r ≡ packed (0 ∷ fieldsOf (decode (now (bytes .entry)))) ⌝ }
 {
-    match vote {
-        Vote::None => pack(0, 0x07, ins, acc, mbal, 0, 0, 0),
-        Vote::Cast { bal, val } => pack(0, 0x1F, ins, acc, mbal, bal, val, 0),
+    let map = message::byte_at(bytes, 0);
+    if map == 0x09 {
+        return pack(0, 0x09, bytes[1], 0, 0, bytes[2], 0, 0);
     }
-}
-
-// A message's number: 0, its map, and ins, acc, mbal, bal and val, 0 for one that it does not have.
-fn message_code(m: Message) -> u64
-    ensures { λ r. ⌜ r ≡ packed (0 ∷ fieldsOf m) ⌝ }
-{
-    match m {
-        Message::Phase1a { ins, bal } => pack(0, 0x09, ins, 0, 0, bal, 0, 0),
-        Message::Phase1b {
-            ins,
-            acc,
-            mbal,
-            vote,
-        } => code_1b(ins, acc, mbal, vote),
-        Message::Phase2a { ins, bal, val } => pack(0, 0x19, ins, 0, 0, bal, val, 0),
-        Message::Phase2b { ins, acc, bal, val } => pack(0, 0x1B, ins, acc, 0, bal, val, 0),
-        Message::Decision { val } => pack(0, 0x10, 0, 0, 0, 0, val, 0),
+    if map == 0x07 {
+        return pack(0, 0x07, bytes[1], bytes[2], bytes[3], 0, 0, 0);
     }
-}
-
-// The number of a reader's answer: the message's, or the refusal's.
-fn read_code(answer: Read) -> u64
-    ensures { λ r. ⌜ r ≡ readCode (readOutcome answer) ⌝ }
-{
-    match answer {
-        Read::Message(m) => message_code(m),
-        Read::Refused(number) => number as u64,
+    if map == 0x1F {
+        return pack(0, 0x1F, bytes[1], bytes[2], bytes[3], bytes[4], bytes[5], 0);
     }
+    if map == 0x19 {
+        return pack(0, 0x19, bytes[1], 0, 0, bytes[2], bytes[3], 0);
+    }
+    if map == 0x1B {
+        return pack(0, 0x1B, bytes[1], bytes[2], 0, bytes[3], bytes[4], 0);
+    }
+    pack(0, 0x10, 0, 0, 0, 0, message::byte_at(bytes, 1), 0)
 }
 
 // The reader. Byte 0 of the number, the lowest, is 0 where the slice is exactly one message; byte 1 is then its map, and bytes 2 to 6
@@ -65,7 +55,11 @@ pub extern "C" fn paxos_commit_read(rms: u8, acceptors: u8, leaders: u8, bytes: 
         acceptors,
         leaders,
     };
-    read_code(message::read_message(plan, bytes))
+    let number = message::message_refusal(plan, bytes);
+    if number != 0 {
+        return number as u64;
+    }
+    message_code(bytes)
 }
 
 // The message with a map and fields, of which those that it does not have are not looked at; 15 for another map.

@@ -2,11 +2,12 @@
 --     guards            the rule set for a definition that is a chain of tests on numbers: at a `return`, `search guards` rewrites
 --                       each test by the branch that was taken
 --     passed, failed    what a callee's answer `r` says of the definition's test `b`, where the code tested `!r`
+--     within            an index below a slice's length, where that is known
 --     told              the same for a row `refuseIf (not b)`
 --     halt, pass        a row of a chain of refusals: it applies, or what the rows below it say
 --     reader-refused, -accepted     a reader's answer taken apart by `let .. else`: its refusal, or the message that goes on
 -- Assumes nothing.
-use Prim.Native.Nat.{ℕ}
+use Prim.Native.Nat.{ℕ, _<_}
 use mathlib.Core.Bool.{Bool, true, false, not}
 use mathlib.Core.Path.{_≡_, sym, _∙_, ap}
 use borrow.Author.Tests.{lt-ltb, le-ltb, le-leb, lt-leb, eq-eqb, ne-eqb, not-true, not-false}
@@ -24,6 +25,9 @@ passed {r} e left = sym e ∙ not-false r left
 
 pub failed : {r b : Bool} → r ≡ b → not r ≡ true → b ≡ false
 failed {r} e taken = sym e ∙ not-true r taken
+
+pub within : {n m k : ℕ} → n ≡ m → k < m → k < n
+within e p = omega arith
 
 pub told : {r b t : Bool} → r ≡ b → not r ≡ t → not b ≡ t
 told e h = ap not (sym e) ∙ h

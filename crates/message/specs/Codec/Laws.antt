@@ -1,22 +1,26 @@
 -- The reader and the writer case by case, in the order of the refusals.
---     readMessage-plan, -empty, -unknown, -length, -range, -accepted
+--     readMessage-plan, -empty, -unknown
 --     readMessage-bytesOf                the form of a message in range reads as the message
 --     FormOf, readMessage-form           what is read is the form of a message in range
+--     readMessage-number, -number-length    a slice whose number is 0 is read as what it decodes to, and has its map's length
+--     formNumber, -length, -range, -none    the number of a slice whose map is known: another length, a field out of range, or 0
+--     readNumber-map, -unknown           the reader's number by the map
 --     writeMessage-plan, -range, -accepted
 -- Assumes nothing.
 use Prim.Native.Nat.{ℕ}
-use mathlib.Core.Bool.{true, false}
+use mathlib.Core.Bool.{true, false, not}
 use mathlib.Core.List.{List}
 use mathlib.Core.Path.{_≡_, refl, sym, _∙_, ap}
 use native.Mathlib.Omega.{arith}
+use lib.Dec.{eqb}
 use lib.ListN.{length, getD}
 use borrow.Author.Tests.{eq-eqb, ne-eqb, eqb-true, eqb-false, not-false}
 use Rattle.message.specs.declared.Plan.{Plan}
 use Rattle.message.specs.declared.Message.{Message}
-use Rattle.message.specs.Outcome.{accepted, refused, refuseIf}
-use Rattle.message.specs.Outcome.Laws.{accepted-inj, refuseIf-accepted}
+use Rattle.message.specs.Outcome.{accepted, refused, refuseIf, numberOf}
+use Rattle.message.specs.Outcome.Laws.{accepted-inj, refuseIf-accepted, refuseIf-zero}
 use Rattle.message.specs.Plan.{isPlan}
-use Rattle.message.specs.Form.{bytesOf, messageLength, mapLength, decode, isInRange}
+use Rattle.message.specs.Form.{bytesOf, messageLength, mapLength, fieldsMessage, decode, isInRange}
 use Rattle.message.specs.Form.Laws.{messageLength-length, messageLength-bounds, mapLength-bytesOf, decode-bytesOf, bytesOf-decode}
 use Rattle.message.specs.Codec.{readMessage, writeMessage, written}
 
@@ -33,20 +37,6 @@ module _ (p : Plan) (bytes : List ℕ) where
     pub readMessage-unknown : mapLength (getD bytes 0 0) ≡ 0 → readMessage p bytes ≡ refused 15
     unfolding readMessage refuseIf
     readMessage-unknown u = simp (h, ne-eqb _ _ e, eq-eqb _ _ u)
-
-    module _ (u : mapLength (getD bytes 0 0) ≡ 0 → ⊥) where
-      pub readMessage-length : (length bytes ≡ mapLength (getD bytes 0 0) → ⊥) → readMessage p bytes ≡ refused 16
-      unfolding readMessage refuseIf
-      readMessage-length n = simp (h, ne-eqb _ _ e, ne-eqb _ _ u, ne-eqb _ _ n)
-
-      module _ (n : length bytes ≡ mapLength (getD bytes 0 0)) where
-        pub readMessage-range : isInRange p (decode bytes) ≡ false → readMessage p bytes ≡ refused 17
-        unfolding readMessage refuseIf
-        readMessage-range i = simp (h, ne-eqb _ _ e, ne-eqb _ _ u, eq-eqb _ _ n, i)
-
-        pub readMessage-accepted : isInRange p (decode bytes) ≡ true → readMessage p bytes ≡ accepted (decode bytes)
-        unfolding readMessage refuseIf
-        readMessage-accepted i = simp (h, ne-eqb _ _ e, ne-eqb _ _ u, eq-eqb _ _ n, i)
 
 -- the bytes are the form of the message, which is in range under the plan
 pub record FormOf (p : Plan) (m : Message) (bytes : List ℕ) : Type 0 where
@@ -82,6 +72,50 @@ readMessage-form p bytes m e =
       inRange = rw m-is at (not-false (isInRange p (decode bytes)) (range .0));
       bytes-form = sym (bytesOf-decode p bytes (eqb-false _ _ (known .0)) (eqb-true _ _ (not-false _ (len .0)))) ∙ ap (bytesOf p) m-is;
     }
+
+pub readMessage-number : (p : Plan) (bytes : List ℕ) → numberOf (readMessage p bytes) ≡ 0 → accepted (decode bytes) ≡ readMessage p bytes
+unfolding readMessage
+readMessage-number p bytes z =
+    let plan = refuseIf-zero _ 1 _ (λ e. omega arith) z in
+    let nonempty = refuseIf-zero _ 15 _ (λ e. omega arith) (plan .1) in
+    let known = refuseIf-zero _ 15 _ (λ e. omega arith) (nonempty .1) in
+    let len = refuseIf-zero _ 16 _ (λ e. omega arith) (known .1) in
+    let range = refuseIf-zero _ 17 _ (λ e. omega arith) (len .1) in
+    sym (plan .0 ∙ nonempty .0 ∙ known .0 ∙ len .0 ∙ range .0)
+
+-- and it has the length that its map stands for
+pub readMessage-number-length : (p : Plan) (bytes : List ℕ) → numberOf (readMessage p bytes) ≡ 0 → length bytes ≡ mapLength (getD bytes 0 0)
+readMessage-number-length p bytes z =
+    let form = readMessage-form p bytes (decode bytes) (sym (readMessage-number p bytes z)) .bytes-form in
+    ap (λ (l : List ℕ). length l) form ∙ messageLength-length p (decode bytes)
+    ∙ sym (ap (λ (l : List ℕ). mapLength (getD l 0 0)) form ∙ mapLength-bytesOf p (decode bytes))
+
+-- the number of a slice that begins with a known map, where `m` is what it decodes to: rows 16 and 17
+unfoldable pub formNumber : Plan → ℕ → Message → List ℕ → ℕ
+formNumber p map m bytes = numberOf (refuseIf (not (eqb (length bytes) (mapLength map))) 16 (refuseIf (not (isInRange p m)) 17 (accepted m)))
+
+module _ (p : Plan) (map : ℕ) (m : Message) (bytes : List ℕ) where
+  pub formNumber-length : (length bytes ≡ mapLength map → ⊥) → 16 ≡ formNumber p map m bytes
+  unfolding formNumber refuseIf
+  formNumber-length n = simp (ne-eqb _ _ n)
+
+  pub formNumber-range : length bytes ≡ mapLength map → false ≡ isInRange p m → 17 ≡ formNumber p map m bytes
+  unfolding formNumber refuseIf
+  formNumber-range n i = simp (eq-eqb _ _ n, ← i)
+
+  pub formNumber-none : length bytes ≡ mapLength map → true ≡ isInRange p m → 0 ≡ formNumber p map m bytes
+  unfolding formNumber refuseIf
+  formNumber-none n i = simp (eq-eqb _ _ n, ← i)
+
+module _ (p : Plan) (bytes : List ℕ) (h : isPlan p ≡ true) (e : length bytes ≡ 0 → ⊥) where
+  pub readNumber-map : (map : ℕ) → getD bytes 0 0 ≡ map → (mapLength map ≡ 0 → ⊥)
+      → formNumber p (getD bytes 0 0) (fieldsMessage map (getD bytes 1 0) (getD bytes 2 0) (getD bytes 3 0) (getD bytes 4 0) (getD bytes 5 0)) bytes
+      ≡ numberOf (readMessage p bytes)
+  unfolding readMessage refuseIf formNumber decode
+  readNumber-map map first known = rw (first, h, ne-eqb _ _ e, ne-eqb _ _ known)
+
+  pub readNumber-unknown : mapLength (getD bytes 0 0) ≡ 0 → 15 ≡ numberOf (readMessage p bytes)
+  readNumber-unknown u = sym (ap numberOf (readMessage-unknown p bytes h e u))
 
 module _ (p : Plan) (m : Message) where
   pub writeMessage-plan : isPlan p ≡ false → writeMessage p m ≡ written p (refused 1)

@@ -5,6 +5,7 @@
 --     mapLength-bound       no message is longer than a slot
 --     first-bytesOf         no map is 0
 --     knownMap              a rule that holds of the six known maps holds of every map whose length is not 0
+--     mapLength-unknown     any other map has no length
 --     decode-bytesOf, decode-slotOf        decoding the form of a message, or its slot, gives the message
 --     bytesOf-decode        bytes with a known map and its length are the form of what they decode to
 -- Laws/Table.antt has the rule of a constant table. Assumes nothing.
@@ -127,6 +128,15 @@ knownMap P p09 p07 p1F p19 p1B p10 map known = under (decLt map 32)
     under : Dec (map < 32) → P map
     under (yes h) = entry h
     under (no h) = absurd (known (List·getD-eq-default mapLengths 0 {n = map} (omega arith)))
+
+-- any other map has no length
+pub mapLength-unknown : (map : ℕ) → (map ≡ 0x09 → ⊥) → (map ≡ 0x07 → ⊥) → (map ≡ 0x1F → ⊥) → (map ≡ 0x19 → ⊥) → (map ≡ 0x1B → ⊥) → (map ≡ 0x10 → ⊥)
+    → mapLength map ≡ 0
+mapLength-unknown map n09 n07 n1F n19 n1B n10 =
+    elim (ℕ-discrete (mapLength map) 0) [
+      | yes e ↦ e
+      | no known ↦ absurd (knownMap (λ (k : ℕ). map ≡ k → ⊥) n09 n07 n1F n19 n1B n10 map known refl)
+    ]
 
 pub decode-bytesOf : (p : Plan) (m : Message) → decode (bytesOf p m) ≡ m
 unfolding decode fieldsMessage bytesOf bytesOf1b
