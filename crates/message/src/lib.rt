@@ -2,7 +2,7 @@
 //
 //     Plan, is_plan                  the three counts, and refusal 1
 //     Message, Vote                  the messages of the protocol; the vote report of a 1b
-//     SLOT_SIZE, map_length, map_lengths   the bytes of a slot; the length that a bit map stands for, and of all maps
+//     SLOT_SIZE, map_length          the bytes of a slot; the length that a bit map stands for
 //     is_value, in_range             the ranges of the fields, and refusal 17
 //     byte_at, decode_message        a byte or 0 past the end; the message that the bytes of a known map make
 //     message_refusal                the number that a slice is refused with, 0 where it is one message
@@ -14,7 +14,7 @@ ghost use mathlib.Core.Path.{_≡_};
 ghost use lib.ListN.{getD};
 ghost use Rattle.message.specs.Outcome.{numberOf};
 ghost use Rattle.message.specs.Plan.{isPlan};
-ghost use Rattle.message.specs.Form.{isValue, isVote, isInRange, slotOf, mapLengths, mapLength, fieldsMessage, decode};
+ghost use Rattle.message.specs.Form.{isValue, isVote, isInRange, slotOf, mapLength, fieldsMessage, decode};
 ghost use Rattle.message.specs.Codec.{readOutcome, readMessage, writeMessage};
 ghost use Rattle.message.specs.Codec.Laws.{formNumber};
 
@@ -122,13 +122,6 @@ const MAP_LENGTHS: [u8; 32] = [
     0,
     6,
 ];
-
-// The whole table, for a caller that looks up many maps.
-pub fn map_lengths() -> [u8; 32]
-    ensures { λ r. ⌜ r ≡ mapLengths ⌝ }
-{
-    MAP_LENGTHS
-}
 
 // The length that a first byte stands for: the table's entry, or 0 past its end.
 pub fn map_length(map: u8) -> usize

@@ -5,15 +5,14 @@
 --     none-seen, slot-lanes                 eight tests, each beside what was seen before
 -- Assumes nothing.
 use Prim.Native.Nat.{ℕ, zero, suc, _+_, _-_, _*_, _/_, _%_, _≤_, _<_}
-use mathlib.Core.Bool.{Bool, true, false, not, _&&_, _||_, cond, and-assoc, and-true, false≢true}
+use mathlib.Core.Bool.{Bool, true, false, not, _&&_, _||_, cond, and-assoc, and-true}
 use mathlib.Core.List.{List, [], _∷_, map}
 use mathlib.Core.Path.{_≡_, refl, sym, _∙_, ap}
 use native.Mathlib.Decide.{decLe, ℕ-discrete}
-use native.Mathlib.Nat.{add-zero, add-sub-cancel-left, not-suc-le-zero}
+use native.Mathlib.Nat.{add-zero, not-suc-le-zero}
 use native.Mathlib.Omega.{arith}
-use lib.Dec.{leb, ltb, eqb, leb·zero, lit≤}
-use lib.ListN.{length, getD, take, drop, List·getD-map}
-use lib.Seq.{getD-take, getD-drop}
+use lib.Dec.{leb, ltb, eqb, leb·zero}
+use lib.ListN.{length, getD, take, List·getD-map}
 use borrow.Author.Tests.{eq-eqb, ne-eqb, le-leb, lt-leb, lt-ltb, le-ltb, eqb-true}
 use Rattle.message.specs.declared.Plan.{Plan}
 use Rattle.message.specs.declared.Message.{Message}
@@ -26,14 +25,13 @@ use Rattle.message.specs.Form.Laws.{knownMap}
 use Rattle.message.specs.Codec.{readMessage}
 use Rattle.message.specs.Codec.Laws.{readMessage-plan, readMessage-empty}
 use Rattle.slots.specs.declared.judge.Lanes.{Lanes}
-use Rattle.slots.specs.Table.{Slot, Unused, Used, Bad, slotSize, slots, isZero, usedSlot, readSlot, readTable}
+use Rattle.slots.specs.Table.{Unused, Bad, slotSize, slots, isZero, usedSlot, readSlot, readTable}
 use Rattle.slots.specs.All.{all}
 use Rattle.slots.specs.Table.Scan.{leadingUsed}
-use Rattle.slots.specs.Table.Laws.{readSlot-unused, slotAt}
+use Rattle.slots.specs.Table.Laws.{readSlot-unused}
 use Rattle.slots.specs.Table.Laws.Bounds.{distanceFrom, isWithin, putBound, putRow, lows, spansOf, Bounded, inBounds, isForm, isClear, eightAt}
 use Rattle.slots.specs.Table.Laws.Each.{interchange}
 use Rattle.slots.specs.Table.Laws.Edge.{isUsed, usedAt}
-use Rattle.message.proofs.Guards.{passed}
 use Rattle.slots.proofs.Six.{slot-six}
 
 pub over-more : (a b : ℕ) → b < a → eqb (a - b) 0 ≡ leb a b

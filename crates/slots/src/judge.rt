@@ -257,13 +257,13 @@ fn are_forms(plan: Plan, low: &[u8; BOUNDS], span: &[u8; BOUNDS], table: &[u8], 
     is_clear(seen)
 }
 
-// Whether every slot is unused or holds a message, and used slots come first, in one pass. Where the first slot is unused no bounds are made. Where it is not so, refusal 5 for N and 6 for
+// Whether every slot is unused or holds a message, and used slots come first, in one pass. Where the first byte is no map no slot is used, and no bounds are made. Where it is not so, refusal 5 for N and 6 for
 // an inbox.
 pub fn is_table(plan: Plan, table: &[u8]) -> bool
     ensures { λ r. ⌜ r ≡ isTable plan (now (table .entry)) ⌝ }
 {
     let to = table.len() / SLOT_SIZE * SLOT_SIZE;
-    if message::byte_at(table, 0) == 0 {
+    if message::map_length(message::byte_at(table, 0)) == 0 {
         return is_zero(&table[..to]);
     }
     if !message::is_plan(plan) {

@@ -23,7 +23,7 @@ use Rattle.message.specs.declared.Plan.{Plan}
 use Rattle.message.specs.declared.Message.{Message}
 use Rattle.message.specs.Outcome.{Outcome, accepted, refused, refuseIf}
 use Rattle.message.specs.Plan.{isPlan}
-use Rattle.message.specs.Form.{mapLengths, mapLength}
+use Rattle.message.specs.Form.{mapLength}
 use Rattle.message.specs.Codec.{readMessage}
 use Rattle.slots.specs.Table.{Slot, Unused, Used, Bad, slotSize, slotsUpTo, slots, isZero, usedSlot, readSlot, readTable, allUnused, isOrdered, isTable, joinSlots}
 use Rattle.slots.specs.All.{all}
@@ -183,9 +183,9 @@ isTable-zero p t u e =
     ∙ joinSlots-slotsUpTo _ (drop (u * slotSize) t)
     ∙ ap (λ (k : ℕ). take k (drop (u * slotSize) t)) (times-sub (length t / slotSize) u))
 
--- a slot whose first byte is 0 is not used
-unused-first : (p : Plan) (s : List ℕ) (rest : List Slot) → getD s 0 0 ≡ 0 → 0 ≡ leadingUsed (readSlot p s ∷ rest)
-unfolding readSlot leadingUsed readMessage refuseIf mapLength mapLengths
+-- a slot whose first byte is no map is not used
+unused-first : (p : Plan) (s : List ℕ) (rest : List Slot) → mapLength (getD s 0 0) ≡ 0 → 0 ≡ leadingUsed (readSlot p s ∷ rest)
+unfolding readSlot leadingUsed readMessage refuseIf
 unused-first p s rest e = rw e (go (isZero s) (isPlan p) (isZero s))
   where
     go : (z plan r : Bool) → 0 ≡ leadingUsed (cond z Unused (usedSlot (refuseIf (not plan) 1 (refused 15)) r) ∷ rest)
@@ -193,18 +193,20 @@ unused-first p s rest e = rw e (go (isZero s) (isPlan p) (isZero s))
     go false true r = refl
     go false false r = refl
 
--- so a table that begins with 0 has no leading used slots
-leadingUsed-first : (p : Plan) (t : List ℕ) → getD t 0 0 ≡ 0 → 0 ≡ leadingUsed (readTable p t)
+-- so a table that begins with such a byte has no leading used slots
+leadingUsed-first : (p : Plan) (t : List ℕ) → mapLength (getD t 0 0) ≡ 0 → 0 ≡ leadingUsed (readTable p t)
 unfolding readTable slots slotsUpTo leadingUsed
 leadingUsed-first p t e = go (length t / slotSize)
   where
     go : (n : ℕ) → 0 ≡ leadingUsed (map (readSlot p) (slotsUpTo n t))
     go zero = refl
-    go (suc n) = unused-first p (take slotSize t) (map (readSlot p) (slotsUpTo n (drop slotSize t))) (getD-take slotSize t 0 0 (lit≤ tt) ∙ e)
+    go (suc n) =
+        unused-first p (take slotSize t) (map (readSlot p) (slotsUpTo n (drop slotSize t)))
+        (ap mapLength (getD-take slotSize t 0 0 (lit≤ tt)) ∙ e)
 
 -- without leading used slots all bytes are zeros
 pub isTable-none : (p : Plan) (t : List ℕ) → 0 ≡ leadingUsed (readTable p t) → isTable p t ≡ isZero (take (length t / slotSize * slotSize) t)
 isTable-none p t e = isTable-zero p t 0 e ∙ ap (λ (n : ℕ). isZero (take n t)) (sub-zero (length t / slotSize * slotSize))
 
-pub isTable-first : (p : Plan) (t : List ℕ) → getD t 0 0 ≡ 0 → isTable p t ≡ isZero (take (length t / slotSize * slotSize) t)
+pub isTable-first : (p : Plan) (t : List ℕ) → mapLength (getD t 0 0) ≡ 0 → isTable p t ≡ isZero (take (length t / slotSize * slotSize) t)
 isTable-first p t e = isTable-none p t (leadingUsed-first p t e)

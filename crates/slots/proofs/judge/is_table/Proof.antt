@@ -1,9 +1,10 @@
 -- `slots::judge::is_table` meets its contract: slots before the edge are used, and the bytes from it on are zeros. Assumes nothing.
-use mathlib.Core.Path.{sym, _∙_}
+use mathlib.Core.Path.{sym, _∙_, ap}
 use native.Mathlib.Omega.{arith}
 use lib.Seq.{length-take-le}
 use borrow.Author.Needs.{needs}
 use borrow.Author.Tests.{not-true, not-false}
+use Rattle.message.specs.Form.{mapLength}
 use Rattle.message.proofs.Guards.{passed, failed}
 use Rattle.slots.specs.Table.Laws.{isTable-first, isTable-none}
 use Rattle.slots.specs.Table.Laws.Edge.{edge-bad, edge-good}
@@ -17,9 +18,10 @@ is-table-spec =
     (tie.spec
     (λ c. search needs)
     (λ c κs. tt)
+    (λ c κs. tt)
     (λ c. sym (length-take-le _ _ (omega arith)))
     (λ c κs. tt)
-    (λ c. c .is-zero .ensures ∙ sym (isTable-first _ _ (sym (c .before .before .before .byte-at .ensures) ∙ c .before .before .if1 .taken)))
+    (λ c. c .is-zero .ensures ∙ sym (isTable-first _ _ (sym (c .before .before .before .map-length .ensures ∙ ap mapLength (c .before .before .before .before .byte-at .ensures)) ∙ c .before .before .if1 .taken)))
     (λ c κs. tt)
     (λ c. sym (length-take-le _ _ (omega arith)))
     (λ c κs. tt)
