@@ -178,7 +178,7 @@ pub fn judge(plan: Plan, votes: &[u8], network: &[u8]) -> Judged
     if !are_votes(votes) {
         return Judged::Refused(4);
     }
-    if !slots::is_table(plan, network) {
+    if !tables::is_table(plan, network) {
         return Judged::Refused(5);
     }
     Judged::Sound

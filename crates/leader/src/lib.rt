@@ -285,13 +285,7 @@ pub fn judge(plan: Plan, inbox: &[u8], network: &[u8]) -> Judged
     if !slots::is_table_length(network.len()) {
         return Judged::Refused(2);
     }
-    if !slots::is_table(plan, network) {
-        return Judged::Refused(5);
-    }
-    if !slots::is_table(plan, inbox) {
-        return Judged::Refused(6);
-    }
-    Judged::Sound
+    tables::judge(plan, network, 1, inbox)
 }
 
 // The step: what `judge` refuses, and then as `perform`; a refusal changes no byte.

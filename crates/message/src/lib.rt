@@ -5,7 +5,7 @@
 //     SLOT_SIZE, map_length          the bytes of a slot; the length that a bit map stands for
 //     is_value, in_range             the ranges of the fields, and refusal 17
 //     byte_at, decode_message        a byte or 0 past the end; the message that the bytes of a known map make
-//     message_refusal                the number that a slice is refused with, 0 where it is one message
+//     message_refusal                the number that a slice is refused with, 0 where it is one message (refusal.rt)
 //     Read, read_message, read_refusal   the reader
 //     encode, Written, write_message the byte form by itself, and the writer
 //
@@ -16,7 +16,10 @@ ghost use Rattle.message.specs.Outcome.{numberOf};
 ghost use Rattle.message.specs.Plan.{isPlan};
 ghost use Rattle.message.specs.Form.{isValue, isVote, isInRange, slotOf, mapLength, fieldsMessage, decode};
 ghost use Rattle.message.specs.Codec.{readOutcome, readMessage, writeMessage};
-ghost use Rattle.message.specs.Codec.Laws.{formNumber};
+
+mod refusal;
+
+pub use refusal::message_refusal;
 
 // The plan of an order: how many resource managers (document 01: weights), acceptors and leaders it has.
 pub struct Plan {
@@ -274,140 +277,6 @@ pub fn decode_message(bytes: &[u8]) -> Message
         byte_at(bytes, 4),
         byte_at(bytes, 5),
     )
-}
-
-// The refusal of a slice whose map is a 1a's: 16 (another length than the map's), 17 (a field out of range), or 0. Likewise below for
-// the other maps. Where the map is known, so is the table's entry, and the fields are read straight from their places.
-fn refusal_1a(plan: Plan, map: u8, bytes: &[u8]) -> u8
-    requires { ⌜ map ≡ 0x09 ⌝ }
-    ensures { λ r. ⌜ r ≡ formNumber plan map (Message.Phase1a (getD (now (bytes .entry)) 1 0) (getD (now (bytes .entry)) 2 0)) (now (bytes .entry)) ⌝ }
-{
-    if bytes.len() != map_length(map) {
-        return 16;
-    }
-    if plan.rms <= bytes[1] {
-        return 17;
-    }
-    if bytes[2] < 1 {
-        return 17;
-    }
-    0
-}
-
-fn refusal_1b(plan: Plan, map: u8, bytes: &[u8]) -> u8
-    requires { ⌜ map ≡ 0x07 ⌝ }
-    ensures { λ r. ⌜ r ≡ formNumber plan map (Message.Phase1b (getD (now (bytes .entry)) 1 0) (getD (now (bytes .entry)) 2 0) (getD (now (bytes .entry)) 3 0) Vote.None) (now (bytes .entry)) ⌝ }
-{
-    if bytes.len() != map_length(map) {
-        return 16;
-    }
-    if plan.rms <= bytes[1] {
-        return 17;
-    }
-    if plan.acceptors <= bytes[2] {
-        return 17;
-    }
-    0
-}
-
-fn refusal_1b_vote(plan: Plan, map: u8, bytes: &[u8]) -> u8
-    requires { ⌜ map ≡ 0x1F ⌝ }
-    ensures { λ r. ⌜ r ≡ formNumber plan map (Message.Phase1b (getD (now (bytes .entry)) 1 0) (getD (now (bytes .entry)) 2 0) (getD (now (bytes .entry)) 3 0) (Vote.Cast (getD (now (bytes .entry)) 4 0) (getD (now (bytes .entry)) 5 0))) (now (bytes .entry)) ⌝ }
-{
-    if bytes.len() != map_length(map) {
-        return 16;
-    }
-    if plan.rms <= bytes[1] {
-        return 17;
-    }
-    if plan.acceptors <= bytes[2] {
-        return 17;
-    }
-    if !is_value(bytes[5]) {
-        return 17;
-    }
-    0
-}
-
-fn refusal_2a(plan: Plan, map: u8, bytes: &[u8]) -> u8
-    requires { ⌜ map ≡ 0x19 ⌝ }
-    ensures { λ r. ⌜ r ≡ formNumber plan map (Message.Phase2a (getD (now (bytes .entry)) 1 0) (getD (now (bytes .entry)) 2 0) (getD (now (bytes .entry)) 3 0)) (now (bytes .entry)) ⌝ }
-{
-    if bytes.len() != map_length(map) {
-        return 16;
-    }
-    if plan.rms <= bytes[1] {
-        return 17;
-    }
-    if !is_value(bytes[3]) {
-        return 17;
-    }
-    0
-}
-
-fn refusal_2b(plan: Plan, map: u8, bytes: &[u8]) -> u8
-    requires { ⌜ map ≡ 0x1B ⌝ }
-    ensures { λ r. ⌜ r ≡ formNumber plan map (Message.Phase2b (getD (now (bytes .entry)) 1 0) (getD (now (bytes .entry)) 2 0) (getD (now (bytes .entry)) 3 0) (getD (now (bytes .entry)) 4 0)) (now (bytes .entry)) ⌝ }
-{
-    if bytes.len() != map_length(map) {
-        return 16;
-    }
-    if plan.rms <= bytes[1] {
-        return 17;
-    }
-    if plan.acceptors <= bytes[2] {
-        return 17;
-    }
-    if !is_value(bytes[4]) {
-        return 17;
-    }
-    0
-}
-
-fn refusal_decision(plan: Plan, map: u8, bytes: &[u8]) -> u8
-    requires { ⌜ map ≡ 0x10 ⌝ }
-    ensures { λ r. ⌜ r ≡ formNumber plan map (Message.Decision (getD (now (bytes .entry)) 1 0)) (now (bytes .entry)) ⌝ }
-{
-    if bytes.len() != map_length(map) {
-        return 16;
-    }
-    if !is_value(bytes[1]) {
-        return 17;
-    }
-    0
-}
-
-// The refusal of a slice: 1, 15 (empty slice or unknown map), 16 (another length than the map's) or 17 (a field out of range), and 0 where
-// the slice is exactly one message.
-pub fn message_refusal(plan: Plan, bytes: &[u8]) -> u8
-    ensures { λ r. ⌜ r ≡ numberOf (readMessage plan (now (bytes .entry))) ⌝ }
-{
-    if !is_plan(plan) {
-        return 1;
-    }
-    if bytes.len() == 0 {
-        return 15;
-    }
-    let map = bytes[0];
-    if map == 0x09 {
-        return refusal_1a(plan, map, bytes);
-    }
-    if map == 0x07 {
-        return refusal_1b(plan, map, bytes);
-    }
-    if map == 0x1F {
-        return refusal_1b_vote(plan, map, bytes);
-    }
-    if map == 0x19 {
-        return refusal_2a(plan, map, bytes);
-    }
-    if map == 0x1B {
-        return refusal_2b(plan, map, bytes);
-    }
-    if map == 0x10 {
-        return refusal_decision(plan, map, bytes);
-    }
-    15
 }
 
 // The reader. The slice is exactly one message: that message, or its refusal.

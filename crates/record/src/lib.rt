@@ -15,7 +15,7 @@ ghost use Rattle.message.specs.Plan.{isPlan};
 ghost use Rattle.change.specs.Change.{judgedOutcome};
 ghost use Rattle.event.specs.Event.{whoOf};
 ghost use Rattle.leader.specs.Leader.{leaderJudged, leaderStep};
-ghost use Rattle.record.specs.Record.{tablesOf, inboxOf, areLengths, areInboxes, openJudged, recordJudged};
+ghost use Rattle.record.specs.Record.{tablesOf, inboxOf, areLengths, openJudged, recordJudged};
 ghost use Rattle.record.specs.Record.{zeroed, openingOf, recordOpen, recordStepOf, onInbox, recordStep};
 use change::Answer;
 use change::Judged;
@@ -55,25 +55,6 @@ fn judge_lengths(plan: Plan, states: &[u8], votes: &[u8], network: &[u8], inboxe
     Judged::Sound
 }
 
-// Whether each leader's inbox is a table by itself; where one is not, 6.
-fn are_inboxes(plan: Plan, inboxes: &[u8]) -> bool
-    requires { ⌜ isPlan plan ≡ true ⌝ }
-    ensures { λ r. ⌜ r ≡ areInboxes plan (now (inboxes .entry)) ⌝ }
-{
-    let leaders = plan.leaders as usize;
-    let size = inboxes.len() / leaders;
-    let mut l = 0;
-    while l < leaders {
-        let from = l * size;
-        let to = from + size;
-        if !slots::is_table(plan, &inboxes[from..to]) {
-            return false;
-        }
-        l += 1;
-    }
-    true
-}
-
 // The plan, the lengths and the content of the four tables, each inbox by itself: 1 to 6.
 pub fn judge(plan: Plan, states: &[u8], votes: &[u8], network: &[u8], inboxes: &[u8]) -> Judged
     ensures { λ r. ⌜ judgedOutcome r ≡ recordJudged plan (tablesOf (now (states .entry)) (now (votes .entry)) (now (network .entry)) (now (inboxes .entry))) ⌝ }
@@ -88,13 +69,7 @@ pub fn judge(plan: Plan, states: &[u8], votes: &[u8], network: &[u8], inboxes: &
     if !acceptor::are_votes(votes) {
         return Judged::Refused(4);
     }
-    if !slots::is_table(plan, network) {
-        return Judged::Refused(5);
-    }
-    if !are_inboxes(plan, inboxes) {
-        return Judged::Refused(6);
-    }
-    Judged::Sound
+    tables::judge(plan, network, plan.leaders as usize, inboxes)
 }
 
 // Every byte 0.

@@ -183,7 +183,7 @@ pub fn judge(plan: Plan, states: &[u8], network: &[u8]) -> Judged
     if !are_states(states) {
         return Judged::Refused(3);
     }
-    if !slots::is_table(plan, network) {
+    if !tables::is_table(plan, network) {
         return Judged::Refused(5);
     }
     Judged::Sound

@@ -1,17 +1,14 @@
 -- Numbers put together by `|` and `^`, to see whether all are zero or the same.
 --     or-zero                the result is zero exactly when both are
 --     xor-zero, differ-zero  the differing bits are none exactly when the numbers are the same; of two pairs
---     zeroAt                 one byte of a list
 -- Assumes nothing.
 use Prim.Native.Nat.{ℕ}
-use mathlib.Core.Bool.{Bool, _&&_}
-use mathlib.Core.List.{List}
+use mathlib.Core.Bool.{_&&_}
 use mathlib.Core.Path.{_≡_, _∙_}
 use native.Mathlib.Decide.{ℕ-discrete}
 use native.Mathlib.Omega.{arith}
 use lib.Bits.{bitOr, bitXor, or-add-and, xor-add-and, xor-self, and-le-l, and-le-r}
 use lib.Dec.{eqb}
-use lib.ListN.{getD}
 use borrow.Author.Tests.{eq-eqb, ne-eqb}
 
 pub or-zero : (a b : ℕ) → eqb (bitOr a b) 0 ≡ (eqb a 0 && eqb b 0)
@@ -31,7 +28,3 @@ xor-zero a b = go (ℕ-discrete a b)
 
 pub differ-zero : (a b c d : ℕ) → eqb (bitOr (bitXor a b) (bitXor c d)) 0 ≡ (eqb a b && eqb c d)
 differ-zero a b c d = or-zero (bitXor a b) (bitXor c d) ∙ rw (xor-zero a b, xor-zero c d)
-
--- the byte at an index is zero
-abbrev pub zeroAt : List ℕ → ℕ → Bool
-zeroAt l k = eqb (getD l k 0) 0

@@ -1,13 +1,12 @@
 // Slot tables: the network N, or one inbox, as a slice of bytes (document 01, "The plan and four tables").
 //
 //     is_table_length                  row 2 of "Refusals by place": whole slots, at most 1,024
-//     is_table                         rows 5 and 6: every slot unused or a readable message with zeros after it, used slots first
 //     message_at                       the message in a slot, by the reader
 //     Place, locate_message, store_message   where a message stands or may be appended, and appending it
 //     Store, Send, send_message, apply_store   what sending a message comes to, decided before anything is stored
 //     set_byte                         a byte of a table
 //
-// A whole table is judged in judge.rt, and looked through in search.rt.
+// A table is looked through in search.rt. Judging whole tables is the crate `tables`.
 // What each of them means stands in specs/. No public function has a `requires`, and none looks past its table.
 ghost use mathlib.Core.Path.{_≡_};
 ghost use lib.ListN.{length, set};
@@ -18,10 +17,8 @@ ghost use Rattle.slots.specs.Table.Scan.{readUsed, readAt};
 ghost use Rattle.slots.specs.View.{storeBytes};
 ghost use Rattle.slots.specs.View.Bytes.{viewBytes};
 
-mod judge;
 mod search;
 
-pub use judge::is_table;
 use message::Message;
 use message::Plan;
 use message::Read;

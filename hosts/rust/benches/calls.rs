@@ -296,6 +296,23 @@ fn by_hand(own: bool, tables: &mut Tables, event: &[u8; 4]) -> Result<reference:
     }
 }
 
+/// Reading, writing and opening as calls. A linked library's is one too: neither is inlined into the loop that times it.
+#[inline(never)]
+fn read_by_hand(plan: reference::Plan, bytes: &[u8]) -> Result<reference::Message, u8> {
+    reference::read(plan, bytes)
+}
+
+#[inline(never)]
+fn write_by_hand(plan: reference::Plan, message: reference::Message) -> (u8, [u8; 6], usize) {
+    reference::write(plan, message)
+}
+
+#[inline(never)]
+fn open_by_hand(plan: reference::Plan, tables: &mut Tables) -> Result<(), u8> {
+    let Tables { states, votes, network, inboxes } = tables;
+    reference::open(plan, states, votes, network, inboxes)
+}
+
 /// The time of a batch of calls, each on restored tables.
 fn batch<T>(tables: &mut Tables, old: &Tables, mut call: impl FnMut(&mut Tables) -> T) -> Duration {
     let mut total = Duration::ZERO;
@@ -494,7 +511,7 @@ impl Report {
         for (name, bytes) in &messages {
             let times = time_plain(
                 || Fields::read(black_box(PLAN), black_box(bytes)),
-                || reference::read(black_box(REFERENCE_PLAN), black_box(bytes)),
+                || read_by_hand(black_box(REFERENCE_PLAN), black_box(bytes)),
             );
             self.line(name, 1.0, 1, times);
         }
@@ -503,14 +520,14 @@ impl Report {
         let message = reference::Message::Phase1b { ins: 3, acc: 2, mbal: 9, vote: Some(vote) };
         let times = time_plain(
             || black_box(fields).write(black_box(PLAN)),
-            || reference::write(black_box(REFERENCE_PLAN), black_box(message)),
+            || write_by_hand(black_box(REFERENCE_PLAN), black_box(message)),
         );
         self.line("write a 1b with a vote", 1.0, 1, times);
         let fields = Fields { map: 0x19, ins: 3, bal: 9, val: 1, ..Fields::default() };
         let message = reference::Message::Phase2a { ins: 3, bal: 9, val: 1 };
         let times = time_plain(
             || black_box(fields).write(black_box(PLAN)),
-            || reference::write(black_box(REFERENCE_PLAN), black_box(message)),
+            || write_by_hand(black_box(REFERENCE_PLAN), black_box(message)),
         );
         self.line("write a 2a", 1.0, 1, times);
         let (mut first, mut second) = (Tables::fresh(), Tables::fresh());
@@ -524,10 +541,7 @@ impl Report {
                     &mut first.inboxes,
                 )
             },
-            || {
-                let t = &mut second;
-                reference::open(black_box(REFERENCE_PLAN), &mut t.states, &mut t.votes, &mut t.network, &mut t.inboxes)
-            },
+            || open_by_hand(black_box(REFERENCE_PLAN), &mut second),
         );
         self.line("open, largest tables", 1.0, 0, times);
         println!(

@@ -1,6 +1,7 @@
--- `leader::judge` meets its contract: each `return` is one row of `leaderJudged`. Assumes nothing.
-use mathlib.Core.Path.{refl}
-use Rattle.message.proofs.Guards.{told, halt, pass}
+-- `leader::judge` meets its contract: each `return` is one row of `leaderJudged`, rows 5 and 6 together. Assumes nothing.
+use mathlib.Core.Path.{_∙_}
+use Rattle.message.proofs.Guards.{passed, told, halt, pass}
+use Rattle.tables.specs.Tables.Laws.{areTables-one, tables-passed}
 use Rattle.leader.specs.Leader.{leaderJudged}
 use Rattle.leader.proofs.judge.Statement.{statement}
 use Rattle.leader.proofs.judge.Tie as tie
@@ -23,22 +24,8 @@ judge-spec =
     (halt _ _ _ (told (c .before .is-table-length2 .ensures) (c .if3 .taken)))))
     (λ c κs. tt)
     (λ c.
-    pass _ _ _ (told (c .before .before .before .before .before .before .before .is-plan .ensures) (c .before .before .before .before .before .before .if1 .left))
-    (pass _ _ _ (told (c .before .before .before .before .before .is-table-length .ensures) (c .before .before .before .before .if2 .left))
-    (pass _ _ _ (told (c .before .before .before .is-table-length2 .ensures) (c .before .before .if3 .left))
-    (halt _ _ _ (told (c .before .is-table .ensures) (c .if4 .taken))))))
-    (λ c κs. tt)
-    (λ c.
-    pass _ _ _ (told (c .before .before .before .before .before .before .before .before .before .is-plan .ensures)
-    (c .before .before .before .before .before .before .before .before .if1 .left))
-    (pass _ _ _ (told (c .before .before .before .before .before .before .before .is-table-length .ensures) (c .before .before .before .before .before .before .if2 .left))
-    (pass _ _ _ (told (c .before .before .before .before .before .is-table-length2 .ensures) (c .before .before .before .before .if3 .left))
-    (pass _ _ _ (told (c .before .before .before .is-table .ensures) (c .before .before .if4 .left))
-    (halt _ _ _ (told (c .before .is-table2 .ensures) (c .if5 .taken)))))))
-    (λ c.
-    pass _ _ _ (told (c .before .before .before .before .before .before .before .before .before .is-plan .ensures)
-    (c .before .before .before .before .before .before .before .before .if1 .left))
-    (pass _ _ _ (told (c .before .before .before .before .before .before .before .is-table-length .ensures) (c .before .before .before .before .before .before .if2 .left))
-    (pass _ _ _ (told (c .before .before .before .before .before .is-table-length2 .ensures) (c .before .before .before .before .if3 .left))
-    (pass _ _ _ (told (c .before .before .before .is-table .ensures) (c .before .before .if4 .left))
-    (pass _ _ _ (told (c .before .is-table2 .ensures) (c .if5 .left)) refl))))))
+    pass _ _ _ (told (c .before .before .before .before .before .before .is-plan .ensures) (c .before .before .before .before .before .if1 .left))
+    (pass _ _ _ (told (c .before .before .before .before .is-table-length .ensures) (c .before .before .before .if2 .left))
+    (pass _ _ _ (told (c .before .before .is-table-length2 .ensures) (c .before .if3 .left))
+    (c .judge .ensures ∙ tables-passed _ (passed (c .before .before .before .before .before .before .is-plan .ensures)
+    (c .before .before .before .before .before .if1 .left)) _ _ 1 _ (areTables-one _ _))))))

@@ -1,8 +1,10 @@
 -- `record::judge` meets its contract: each `return` is one row of `recordJudged`, rows 1 and 2 together. Assumes nothing.
-use mathlib.Core.Path.{refl}
+use mathlib.Core.Path.{_∙_}
 use Rattle.message.proofs.Guards.{told, halt, pass}
 use borrow.Author.Needs.{needs}
+use Rattle.tables.specs.Tables.Laws.{tables-passed}
 use Rattle.record.specs.Record.{recordJudged}
+use Rattle.record.proofs.Inboxes.{inboxes-are}
 use Rattle.record.proofs.Judging.{lengths-refused, lengths-plan, lengths-passed}
 use Rattle.record.proofs.judge.Statement.{statement}
 use Rattle.record.proofs.judge.Tie as tie
@@ -25,26 +27,13 @@ judge-spec =
     lengths-passed _ _ _ (c .before .before .before .before .before .before .judge-lengths .ensures) (c .before .before .before .before .enum-told .given .1) _
     (pass _ _ _ (told (c .before .before .before .are-states .ensures) (c .before .before .if1 .left))
     (halt _ _ _ (told (c .before .are-votes .ensures) (c .if2 .taken)))))
+    (λ c. search needs)
     (λ c κs. tt)
     (λ c.
     lengths-passed _ _ _ (c .before .before .before .before .before .before .before .before .judge-lengths .ensures)
     (c .before .before .before .before .before .before .enum-told .given .1) _
     (pass _ _ _ (told (c .before .before .before .before .before .are-states .ensures) (c .before .before .before .before .if1 .left))
     (pass _ _ _ (told (c .before .before .before .are-votes .ensures) (c .before .before .if2 .left))
-    (halt _ _ _ (told (c .before .is-table .ensures) (c .if3 .taken))))))
-    (λ c κs. lengths-plan _ _ _ (c .before .before .before .before .before .before .before .before .judge-lengths .ensures)
-    (c .before .before .before .before .before .before .enum-told .given .1))
-    (λ c.
-    lengths-passed _ _ _ (c .before .before .before .before .before .before .before .before .before .before .judge-lengths .ensures)
-    (c .before .before .before .before .before .before .before .before .enum-told .given .1) _
-    (pass _ _ _ (told (c .before .before .before .before .before .before .before .are-states .ensures) (c .before .before .before .before .before .before .if1 .left))
-    (pass _ _ _ (told (c .before .before .before .before .before .are-votes .ensures) (c .before .before .before .before .if2 .left))
-    (pass _ _ _ (told (c .before .before .before .is-table .ensures) (c .before .before .if3 .left))
-    (halt _ _ _ (told (c .before .are-inboxes .ensures) (c .if4 .taken)))))))
-    (λ c.
-    lengths-passed _ _ _ (c .before .before .before .before .before .before .before .before .before .before .judge-lengths .ensures)
-    (c .before .before .before .before .before .before .before .before .enum-told .given .1) _
-    (pass _ _ _ (told (c .before .before .before .before .before .before .before .are-states .ensures) (c .before .before .before .before .before .before .if1 .left))
-    (pass _ _ _ (told (c .before .before .before .before .before .are-votes .ensures) (c .before .before .before .before .if2 .left))
-    (pass _ _ _ (told (c .before .before .before .is-table .ensures) (c .before .before .if3 .left))
-    (pass _ _ _ (told (c .before .are-inboxes .ensures) (c .if4 .left)) refl))))))
+    (c .judge .ensures
+    ∙ tables-passed _ (lengths-plan _ _ _ (c .before .before .before .before .before .before .before .before .judge-lengths .ensures)
+    (c .before .before .before .before .before .before .enum-told .given .1)) _ _ _ _ (inboxes-are _ _))))))

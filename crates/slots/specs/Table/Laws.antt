@@ -5,9 +5,6 @@
 --     slotAt, slotAt-end, length-readTable            the slot at a place
 --     leadingUsed-step, -unused, -bad, -end, -bound, -first           counting the used slots at the start
 -- Assumes nothing.
-pub mod Bounds
-pub mod Each
-pub mod Edge
 use Prim.Native.Nat.{ℕ, zero, suc, _+_, _-_, _*_, _/_, _≤_, _<_, zero-le, suc-le-suc}
 use mathlib.Core.Bool.{Bool, true, false, _&&_, cond, not}
 use mathlib.Core.List.{List, [], _∷_, _++_, map}

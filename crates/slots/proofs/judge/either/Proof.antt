@@ -1,7 +1,0 @@
--- `slots::judge::either` meets its contract. Assumes nothing.
-use Rattle.slots.proofs.Zeros.{or-zero}
-use Rattle.slots.proofs.judge.either.Statement.{statement}
-use Rattle.slots.proofs.judge.either.Tie as tie
-
-pub either-spec : {M : Type 1} → statement M
-either-spec = tie.close (tie.spec (λ c. or-zero (c .args .a) (c .args .b)))

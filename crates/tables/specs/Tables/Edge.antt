@@ -1,0 +1,137 @@
+-- Where the used slots of a table end, seen from the first bytes of its slots.
+--     isUsed, usedAt, areUsed      a slot that holds a message; the slot at a place; the first slots
+--     Reached, Edge                a place up to which slots may be used, and no used slot a step further
+--     edge-bad, edge-good          at such a place a table is well formed exactly when slots before it are used and bytes from it on are zeros
+-- Assumes nothing.
+use Prim.Native.Nat.{ℕ, zero, suc, _+_, _-_, _*_, _/_, _≤_, _<_}
+use mathlib.Core.Bool.{Bool, true, false, _&&_, cond, not, false≢true}
+use mathlib.Core.List.{List, [], _∷_}
+use mathlib.Core.Path.{_≡_, refl, sym, _∙_, ap}
+use native.Mathlib.Decide.{decLe}
+use native.Mathlib.Nat.{add-sub-cancel-left, zero-add, not-suc-le-zero}
+use native.Mathlib.Omega.{arith}
+use lib.Dec.{eqb, lit≤}
+use lib.ListN.{length, getD, take, drop}
+use lib.Seq.{getD-take, getD-drop}
+use borrow.Author.Tests.{eqb-true}
+use Rattle.message.specs.declared.Plan.{Plan}
+use Rattle.message.specs.Outcome.{refused, refuseIf}
+use Rattle.message.specs.Plan.{isPlan}
+use Rattle.message.specs.Form.{mapLength, mapLengths}
+use Rattle.message.specs.Codec.{readMessage}
+use Rattle.message.specs.Outcome.Laws.{both}
+use Rattle.slots.specs.All.{all}
+use Rattle.slots.specs.Table.{Slot, Unused, Used, Bad, slotSize, isZero, usedSlot, readSlot, readTable, isTable}
+use Rattle.slots.specs.Table.Scan.{leadingUsed}
+use Rattle.slots.specs.Table.Laws.{readSlot-unused, slotAt, length-readTable, leadingUsed-bound, isTable-zero}
+use Rattle.tables.specs.Tables.Each.{each, each-at, each-all}
+
+abbrev pub isUsed : Slot → Bool
+isUsed Unused = false
+isUsed (Used m) = true
+isUsed Bad = false
+
+unfoldable pub usedAt : Plan → List ℕ → ℕ → Bool
+usedAt p t k = isUsed (getD (readTable p t) k Unused)
+
+unfoldable pub areUsed : Plan → List ℕ → ℕ → Bool
+areUsed p t n = each (usedAt p t) 0 n
+
+-- the slot before it does not begin with 0
+pub record Reached (t : List ℕ) (place : ℕ) : Type 0 where
+  pub within : place ≤ length t / slotSize
+  pub before : 0 < place → getD t ((place - 1) * slotSize) 0 ≡ 0 → ⊥
+
+-- the slot a step further begins with 0
+abbrev pub Edge : List ℕ → ℕ → ℕ → Type 0
+Edge t place step = place + step ≤ length t / slotSize → getD t ((place + step - 1) * slotSize) 0 ≡ 0
+
+-- a slot that begins with 0 is not used
+first-unused : (p : Plan) (s : List ℕ) → getD s 0 0 ≡ 0 → isUsed (readSlot p s) ≡ false
+unfolding readSlot readMessage refuseIf mapLength mapLengths
+first-unused p s e = rw e (go (isZero s) (isPlan p) (isZero s))
+  where
+    go : (z plan r : Bool) → isUsed (cond z Unused (usedSlot (refuseIf (not plan) 1 (refused 15)) r)) ≡ false
+    go true plan r = refl
+    go false true r = refl
+    go false false r = refl
+
+-- the leading slots are used, and the next is not
+leading-at : (l : List Slot) (k : ℕ) → k < leadingUsed l → isUsed (getD l k Unused) ≡ true
+unfolding leadingUsed
+leading-at [] k h = absurd (not-suc-le-zero h)
+leading-at (Unused ∷ l) k h = absurd (not-suc-le-zero h)
+leading-at (Used m ∷ l) zero h = refl
+leading-at (Used m ∷ l) (suc k) h = leading-at l k (omega arith)
+leading-at (Bad ∷ l) k h = absurd (not-suc-le-zero h)
+
+leading-next : (l : List Slot) → isUsed (getD l (leadingUsed l) Unused) ≡ false
+unfolding leadingUsed
+leading-next [] = refl
+leading-next (Unused ∷ l) = refl
+leading-next (Used m ∷ l) = leading-next l
+leading-next (Bad ∷ l) = refl
+
+pub zero-at : (l : List ℕ) (i : ℕ) → isZero l ≡ true → getD l i 0 ≡ 0
+unfolding isZero all
+zero-at [] i e = refl
+zero-at (x ∷ l) zero e = eqb-true x 0 (both (eqb x 0) (all (λ y. eqb y 0) l) e .0)
+zero-at (x ∷ l) (suc i) e = zero-at l i (both (eqb x 0) (all (λ y. eqb y 0) l) e .1)
+
+module _ (p : Plan) (t : List ℕ) (u : ℕ) (reached : Reached t u) (edge : Edge t u 1) where
+  abbrev rest : ℕ → List ℕ
+  rest k = take (length t / slotSize * slotSize - k * slotSize) (drop (k * slotSize) t)
+
+  -- the slot at the place
+  next-unused : u < length t / slotSize → usedAt p t u ≡ false
+  unfolding usedAt readTable isZero all
+  next-unused h =
+      ap isUsed (sym (slotAt (readSlot p) Unused (readSlot-unused p [] refl) t u h))
+      ∙ first-unused p _ (rw (add-sub-cancel-left (u * slotSize) slotSize)
+      (getD-take slotSize (drop (u * slotSize) t) 0 0 (lit≤ tt) ∙ getD-drop (u * slotSize) t 0 0
+      ∙ ap (λ (k : ℕ). getD t k 0) (omega arith) ∙ edge (omega arith)))
+
+  all-used : areUsed p t u ≡ true → u ≡ leadingUsed (readTable p t)
+  unfolding areUsed usedAt
+  all-used e = go (decLe (suc (leadingUsed (readTable p t))) u) (decLe (suc u) (leadingUsed (readTable p t)))
+    where
+      go : Dec (leadingUsed (readTable p t) < u) → Dec (u < leadingUsed (readTable p t)) → u ≡ leadingUsed (readTable p t)
+      go (yes h) d =
+          absurd (false≢true (sym (leading-next (readTable p t))
+          ∙ rw zero-add at (each-at (usedAt p t) 0 u (leadingUsed (readTable p t)) e h)))
+      go (no h) (yes k) =
+          absurd (false≢true (sym (next-unused (omega (arith, leadingUsed-bound (readTable p t), length-readTable p t)))
+          ∙ leading-at (readTable p t) u k))
+      go (no h) (no k) = omega arith
+
+  some-unused : areUsed p t u ≡ false → leadingUsed (readTable p t) < u
+  unfolding areUsed usedAt
+  some-unused e = go (decLe (suc (leadingUsed (readTable p t))) u)
+    where
+      go : Dec (leadingUsed (readTable p t) < u) → leadingUsed (readTable p t) < u
+      go (yes h) = h
+      go (no h) =
+          absurd (false≢true (sym e ∙ each-all (usedAt p t) 0 u (λ k l. leading-at (readTable p t) (0 + k) (omega arith))))
+
+  edge-table : isTable p t ≡ (areUsed p t u && isZero (rest u))
+  edge-table = go (areUsed p t u) refl
+    where
+      go : (b : Bool) → areUsed p t u ≡ b → isTable p t ≡ (b && isZero (rest u))
+      go true e = isTable-zero p t u (all-used e)
+      go false e = isTable-zero p t (leadingUsed (readTable p t)) refl ∙ none (isZero (rest (leadingUsed (readTable p t)))) refl
+        where
+          none : (z : Bool) → isZero (rest (leadingUsed (readTable p t))) ≡ z → z ≡ false
+          none false f = refl
+          none true f =
+              absurd (reached .before (omega (arith, some-unused e))
+              (ap (λ (i : ℕ). getD t i 0) (omega (arith, some-unused e))
+              ∙ sym (getD-drop (leadingUsed (readTable p t) * slotSize) t ((u - 1) * slotSize - leadingUsed (readTable p t) * slotSize) 0)
+              ∙ sym (getD-take (length t / slotSize * slotSize - leadingUsed (readTable p t) * slotSize) (drop (leadingUsed (readTable p t) * slotSize) t)
+              ((u - 1) * slotSize - leadingUsed (readTable p t) * slotSize) 0 (omega (arith, some-unused e, reached .within)))
+              ∙ zero-at (rest (leadingUsed (readTable p t))) ((u - 1) * slotSize - leadingUsed (readTable p t) * slotSize) f))
+
+  pub edge-bad : areUsed p t u ≡ false → false ≡ isTable p t
+  edge-bad e = sym (edge-table ∙ rw e refl)
+
+  pub edge-good : areUsed p t u ≡ true → isTable p t ≡ isZero (rest u)
+  edge-good e = edge-table ∙ rw e refl

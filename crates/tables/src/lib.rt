@@ -1,0 +1,372 @@
+// Judging tables: N, or N and so many inboxes. Every slot is unused or a readable message with zeros after it, and used slots come first.
+//
+//     is_zero                whether a part is zeros alone, in one pass without a branch
+//     low_bounds, spans      for each map the lowest byte at each place of a slot, and how far above it a byte may lie
+//     add_four, add_slot     a slot's bytes beside the bounds of its map, eight at a time
+//     edge, are_forms        where the used slots end, and whether each of them holds a message
+//     is_table               row 5 of "Refusals by place" for N alone
+//     judge                  rows 5 and 6 for N and the inboxes, and row 1 before them
+//
+// The reader judges a single message. Tables are judged by bounds instead, which are made once for all slots of all tables. What they
+// answer is proved to be what the reader says of the slot. Four parts of a table are looked through side by side, so that a step of the
+// loop has work for the whole processor. No public function has a `requires`, and none looks past its tables.
+ghost use mathlib.Core.Bool.{true, _&&_};
+ghost use mathlib.Core.Path.{_≡_};
+ghost use Prim.Native.Nat.{_+_, _*_, _/_, _≤_, _<_};
+ghost use lib.Dec.{leb, eqb};
+ghost use lib.ListN.{length};
+ghost use Rattle.message.specs.Plan.{isPlan};
+ghost use Rattle.slots.specs.Table.{slotSize, isZero, isTable};
+ghost use Rattle.change.specs.Change.{judgedOutcome};
+ghost use Rattle.tables.specs.Tables.{areTables, tablesJudged};
+ghost use Rattle.tables.specs.Tables.Bounds.{distanceFrom, isWithin, putRow, lows, spansOf, Bounded, fourWithin, isForm, isClear, areClear, eightAt};
+ghost use Rattle.tables.specs.Tables.Edge.{Reached, Edge, areUsed};
+use change::Judged;
+use message::Plan;
+use message::SLOT_SIZE;
+
+fn either(a: u8, b: u8) -> u8
+    ensures { λ r. ⌜ eqb r 0 ≡ (eqb a 0 && eqb b 0) ⌝ }
+{
+    a | b
+}
+
+// Whether a part is zeros alone. It looks at every byte, several at a time.
+fn is_zero(bytes: &[u8]) -> bool
+    ensures { λ r. ⌜ r ≡ isZero (now (bytes .entry)) ⌝ }
+{
+    let quarter = bytes.len() / 4;
+    let mut any = 0;
+    let mut i = 0;
+    while i < quarter {
+        any = either(any, bytes[i]);
+        any = either(any, bytes[quarter + i]);
+        any = either(any, bytes[2 * quarter + i]);
+        any = either(any, bytes[3 * quarter + i]);
+        i += 1;
+    }
+    let mut rest = 4 * quarter;
+    while rest < bytes.len() {
+        any = either(any, bytes[rest]);
+        rest += 1;
+    }
+    any == 0
+}
+
+// A row of bounds for each first byte. It is longer than a slot by the two bytes after it, which have no bounds, so that eight bytes are
+// looked at together.
+const ROW_SIZE: usize = 8;
+
+const BOUNDS: usize = 2048;
+
+fn put_row(bounds: &mut [u8; BOUNDS], map: usize, row: [u8; ROW_SIZE])
+    requires { ⌜ map < 256 ⌝ }
+    ensures { λ _. ⌜ now (bounds .exit) ≡ putRow (now (bounds .entry)) map row ⌝ }
+{
+    let at = map * ROW_SIZE;
+    bounds[at] = row[0];
+    bounds[at + 1] = row[1];
+    bounds[at + 2] = row[2];
+    bounds[at + 3] = row[3];
+    bounds[at + 4] = row[4];
+    bounds[at + 5] = row[5];
+    bounds[at + 6] = row[6];
+    bounds[at + 7] = row[7];
+}
+
+// The lowest bytes: the map itself, 1 for a value and for the ballot of a 1a, else 0. In the row of 0 the first byte is to be 1, which it
+// is not.
+fn low_bounds() -> [u8; BOUNDS]
+    ensures { λ r. ⌜ r ≡ lows ⌝ }
+{
+    let mut low = [0u8; BOUNDS];
+    put_row(&mut low, 0x00, [1, 0, 0, 0, 0, 0, 0, 0]);
+    put_row(&mut low, 0x09, [0x09, 0, 1, 0, 0, 0, 0, 0]);
+    put_row(&mut low, 0x07, [0x07, 0, 0, 0, 0, 0, 0, 0]);
+    put_row(&mut low, 0x1F, [0x1F, 0, 0, 0, 0, 1, 0, 0]);
+    put_row(&mut low, 0x19, [0x19, 0, 0, 1, 0, 0, 0, 0]);
+    put_row(&mut low, 0x1B, [0x1B, 0, 0, 0, 1, 0, 0, 0]);
+    put_row(&mut low, 0x10, [0x10, 1, 0, 0, 0, 0, 0, 0]);
+    low
+}
+
+// How far above the lowest a byte may lie: up to an instance and an acceptor of the plan, 2 for a value, 255 for a ballot and after the
+// slot, and not at all for the map and after the message. An unknown map lies above its lowest byte, 0.
+fn spans(plan: Plan) -> [u8; BOUNDS]
+    requires { ⌜ isPlan plan ≡ true ⌝ }
+    ensures { λ r. ⌜ r ≡ spansOf plan ⌝ }
+{
+    let ins = plan.rms - 1;
+    let acc = plan.acceptors - 1;
+    let mut span = [0u8; BOUNDS];
+    put_row(&mut span, 0x09, [0, ins, 254, 0, 0, 0, 255, 255]);
+    put_row(&mut span, 0x07, [0, ins, acc, 255, 0, 0, 255, 255]);
+    put_row(&mut span, 0x1F, [0, ins, acc, 255, 255, 1, 255, 255]);
+    put_row(&mut span, 0x19, [0, ins, 255, 1, 0, 0, 255, 255]);
+    put_row(&mut span, 0x1B, [0, ins, acc, 255, 1, 0, 255, 255]);
+    put_row(&mut span, 0x10, [0, 1, 0, 0, 0, 0, 255, 255]);
+    span
+}
+
+// By how much `a` is more than `b`.
+fn over(a: u8, b: u8) -> u8
+    ensures { λ r. ⌜ eqb r 0 ≡ leb a b ⌝ }
+{
+    if b < a { a - b } else { 0 }
+}
+
+// How far above `low` the byte lies, round past 255.
+fn distance(low: u8, byte: u8) -> u8
+    ensures { λ r. ⌜ r ≡ distanceFrom low byte ⌝ }
+{
+    if low <= byte {
+        byte - low
+    } else {
+        byte + (255 - low) + 1
+    }
+}
+
+// Zero while it was, and the byte lies within its bounds.
+fn lane(seen: u8, low: u8, byte: u8, span: u8) -> u8
+    ensures { λ r. ⌜ eqb r 0 ≡ (eqb seen 0 && isWithin low byte span) ⌝ }
+{
+    either(seen, over(distance(low, byte), span))
+}
+
+// What four bytes of each slot passed so far have shown: zeros while all of them lay within their bounds.
+struct Four {
+    b0: u8,
+    b1: u8,
+    b2: u8,
+    b3: u8,
+}
+
+// The same of a slot's bytes and the two after it.
+struct Eight {
+    front: Four,
+    back: Four,
+}
+
+fn add_four(
+    seen: Four,
+    low: &[u8; BOUNDS],
+    span: &[u8; BOUNDS],
+    row: usize,
+    table: &[u8],
+    at: usize,
+) -> Four
+    requires { ⌜ (row + 4 ≤ 2048) × (at + 4 ≤ length (now table)) ⌝ }
+    ensures { λ r. ⌜ isClear r ≡ (isClear seen && fourWithin (now (low .entry)) (now (span .entry)) row (now (table .entry)) at) ⌝ }
+{
+    Four {
+        b0: lane(seen.b0, low[row], table[at], span[row]),
+        b1: lane(seen.b1, low[row + 1], table[at + 1], span[row + 1]),
+        b2: lane(seen.b2, low[row + 2], table[at + 2], span[row + 2]),
+        b3: lane(seen.b3, low[row + 3], table[at + 3], span[row + 3]),
+    }
+}
+
+// One slot further: the slot that begins at an index, and the two bytes after it.
+fn add_slot(seen: Eight, low: &[u8; BOUNDS], span: &[u8; BOUNDS], table: &[u8], at: usize) -> Eight
+    requires { ⌜ at + 8 ≤ length (now table) ⌝ }
+    ensures { λ r. ⌜ areClear r ≡ (areClear seen && isForm (now (low .entry)) (now (span .entry)) (now (table .entry)) at) ⌝ }
+{
+    let row = table[at] as usize * ROW_SIZE;
+    Eight {
+        front: add_four(seen.front, low, span, row, table, at),
+        back: add_four(seen.back, low, span, row + 4, table, at + 4),
+    }
+}
+
+fn is_clear(seen: Four) -> bool
+    ensures { λ r. ⌜ r ≡ isClear seen ⌝ }
+{
+    (seen.b0 == 0) & (seen.b1 == 0) & (seen.b2 == 0) & (seen.b3 == 0)
+}
+
+fn are_clear(seen: Eight) -> bool
+    ensures { λ r. ⌜ r ≡ areClear seen ⌝ }
+{
+    is_clear(seen.front) & is_clear(seen.back)
+}
+
+// The last used slot, with zeros where the table has no bytes after it.
+fn last_slot(table: &[u8], at: usize) -> [u8; ROW_SIZE]
+    requires { ⌜ at + slotSize ≤ length (now table) ⌝ }
+    ensures { λ r. ⌜ r ≡ eightAt (now (table .entry)) at ⌝ }
+{
+    [
+        table[at],
+        table[at + 1],
+        table[at + 2],
+        table[at + 3],
+        table[at + 4],
+        table[at + 5],
+        message::byte_at(table, at + 6),
+        message::byte_at(table, at + 7),
+    ]
+}
+
+// From a place on by steps, each of which ends at a used slot.
+fn next_edge(table: &[u8], from: usize, step: usize) -> usize
+    requires { ⌜ Reached (now table) from × (0 < step) ⌝ }
+    ensures { λ r. ⌜ Reached (now (table .entry)) r × Edge (now (table .entry)) r step ⌝ }
+{
+    let count = table.len() / SLOT_SIZE;
+    let mut place = from;
+    while step <= count - place {
+        let last = place + step - 1;
+        if table[last * SLOT_SIZE] == 0 {
+            return place;
+        }
+        place += step;
+    }
+    place
+}
+
+// A place with a used slot before it and an unused one at it, as far as the first bytes tell: where the used slots of a well-formed
+// table end.
+fn edge(table: &[u8]) -> usize
+    ensures { λ r. ⌜ Reached (now (table .entry)) r × Edge (now (table .entry)) r 1 ⌝ }
+{
+    let far = next_edge(table, 0, 128);
+    let near = next_edge(table, far, 16);
+    next_edge(table, near, 1)
+}
+
+// Whether the first slots, this many, hold messages, by the bounds of the plan.
+fn are_forms(plan: Plan, low: &[u8; BOUNDS], span: &[u8; BOUNDS], table: &[u8], used: usize) -> bool
+    requires { ⌜ Bounded plan (now low) (now span) × (used ≤ length (now table) / slotSize) ⌝ }
+    ensures { λ r. ⌜ r ≡ areUsed plan (now (table .entry)) used ⌝ }
+{
+    if used == 0 {
+        return true;
+    }
+    let last = used - 1;
+    let quarter = last / 4;
+    let mut seen = Eight {
+        front: Four {
+            b0: 0,
+            b1: 0,
+            b2: 0,
+            b3: 0,
+        },
+        back: Four {
+            b0: 0,
+            b1: 0,
+            b2: 0,
+            b3: 0,
+        },
+    };
+    let mut place = 0;
+    while place < quarter {
+        let first = place * SLOT_SIZE;
+        let second = first + quarter * SLOT_SIZE;
+        let third = second + quarter * SLOT_SIZE;
+        let fourth = third + quarter * SLOT_SIZE;
+        seen = add_slot(seen, low, span, table, first);
+        seen = add_slot(seen, low, span, table, second);
+        seen = add_slot(seen, low, span, table, third);
+        seen = add_slot(seen, low, span, table, fourth);
+        place += 1;
+    }
+    let mut rest = 4 * quarter;
+    while rest < last {
+        let from = rest * SLOT_SIZE;
+        seen = add_slot(seen, low, span, table, from);
+        rest += 1;
+    }
+    let slot = last_slot(table, last * SLOT_SIZE);
+    seen = add_slot(seen, low, span, &slot, 0);
+    are_clear(seen)
+}
+
+// Whether every slot is unused or holds a message, and used slots come first, in one pass.
+fn is_table_within(plan: Plan, low: &[u8; BOUNDS], span: &[u8; BOUNDS], table: &[u8]) -> bool
+    requires { ⌜ Bounded plan (now low) (now span) ⌝ }
+    ensures { λ r. ⌜ r ≡ isTable plan (now (table .entry)) ⌝ }
+{
+    let used = edge(table);
+    if !are_forms(plan, low, span, table, used) {
+        return false;
+    }
+    let to = table.len() / SLOT_SIZE * SLOT_SIZE;
+    is_zero(&table[used * SLOT_SIZE..to])
+}
+
+// Whether one table, N, is well formed; where it is not, refusal 5. Where its first byte is no map no slot is used, and no bounds are made.
+pub fn is_table(plan: Plan, table: &[u8]) -> bool
+    ensures { λ r. ⌜ r ≡ isTable plan (now (table .entry)) ⌝ }
+{
+    let to = table.len() / SLOT_SIZE * SLOT_SIZE;
+    if message::map_length(message::byte_at(table, 0)) == 0 {
+        return is_zero(&table[..to]);
+    }
+    if !message::is_plan(plan) {
+        return is_zero(&table[..to]);
+    }
+    let low = low_bounds();
+    let span = spans(plan);
+    is_table_within(plan, &low, &span, table)
+}
+
+// Whether each of so many equal parts is a table by itself.
+fn are_tables(
+    plan: Plan,
+    low: &[u8; BOUNDS],
+    span: &[u8; BOUNDS],
+    parts: usize,
+    tables: &[u8],
+) -> bool
+    requires { ⌜ Bounded plan (now low) (now span) ⌝ }
+    ensures { λ r. ⌜ r ≡ areTables plan parts (now (tables .entry)) ⌝ }
+{
+    if parts == 0 {
+        return true;
+    }
+    let size = tables.len() / parts;
+    let mut part = 0;
+    while part < parts {
+        let from = part * size;
+        let to = from + size;
+        if !is_table_within(plan, low, span, &tables[from..to]) {
+            return false;
+        }
+        part += 1;
+    }
+    true
+}
+
+// Whether neither N nor an inbox has a byte that is not zero; where N has a first byte the others are not looked at.
+fn are_unused(network: &[u8], inboxes: &[u8]) -> bool
+    ensures { λ r. ⌜ (r ≡ true → (isZero (now (network .entry)) ≡ true) × (isZero (now (inboxes .entry)) ≡ true)) ⌝ }
+{
+    if message::byte_at(network, 0) != 0 {
+        return false;
+    }
+    if !is_zero(network) {
+        return false;
+    }
+    is_zero(inboxes)
+}
+
+// The plan, N, and the inboxes as so many equal parts: 1, 5 or 6. No bounds are made for tables without a used slot.
+pub fn judge(plan: Plan, network: &[u8], parts: usize, inboxes: &[u8]) -> Judged
+    ensures { λ r. ⌜ judgedOutcome r ≡ tablesJudged plan (now (network .entry)) parts (now (inboxes .entry)) ⌝ }
+{
+    if !message::is_plan(plan) {
+        return Judged::Refused(1);
+    }
+    if are_unused(network, inboxes) {
+        return Judged::Sound;
+    }
+    let low = low_bounds();
+    let span = spans(plan);
+    if !is_table_within(plan, &low, &span, network) {
+        return Judged::Refused(5);
+    }
+    if !are_tables(plan, &low, &span, parts, inboxes) {
+        return Judged::Refused(6);
+    }
+    Judged::Sound
+}
