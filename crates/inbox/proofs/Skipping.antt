@@ -7,7 +7,7 @@
 use Prim.Native.Nat.{ℕ, zero, suc, _+_, _-_, _*_, _/_, _≤_, _<_}
 use mathlib.Core.Bool.{Bool, true, false, _&&_, _||_, false≢true}
 use mathlib.Core.List.{List, _∷_}
-use mathlib.Core.Path.{_≡_, refl, sym, _∙_, ap, ap₂}
+use mathlib.Core.Path.{_≡_, refl, sym, _∙_, ap, ap₂, subst}
 use native.Mathlib.Decide.{ℕ-discrete}
 use native.Mathlib.Nat.{add-zero}
 use native.Mathlib.Numerals.{add-one}
@@ -101,21 +101,20 @@ module _ (i b : ℕ) (g : Gathered) (map b1 b2 b3 b4 b5 : ℕ) (h : isCandidate 
       go true e f = other f (eqb-true b1 i e) (eqb map 0x19) refl
       go false e f = skip-instance i b g map b1 b2 b3 b4 b5 (eqb-false b1 i e)
 
-module _ (i b : ℕ) (ms : List Message) (t : List ℕ) (g : Gathered) (k : ℕ) (inv : Gathers i b ms g (ahead t k)) where
+module _ (i b : ℕ) (ms : List Message) (t : List ℕ) (g : Gathered) (k : ℕ) (inv : Gathers i b ms g k (ahead t k)) where
   skip-run : (n : ℕ) → k + n ≤ length t / slotSize → ((m : ℕ) → m < n → candidateAt i b t ((k + m) * slotSize) ≡ false)
-      → Gathers i b ms g (ahead t (k + n))
+      → Gathers i b ms g (k + n) (ahead t (k + n))
   unfolding messageAt
   skip-run zero l none = rw (add-zero k) inv
   skip-run (suc n) l none =
       let next : k + n + 1 ≡ k + suc n = omega arith in
       let h = none n (omega arith) in
-      gathers-next i b ms g (ahead t (k + n)) (skip-run n (omega arith) (λ m s. none m (omega arith)))
-      (messageAt t ((k + n) * slotSize)) (ahead t (k + suc n))
-      (ahead-used t (k + n) (omega arith) (not-unused i b g _ _ _ _ 0 0 h)
-      ∙ ap (λ (x : ℕ). messageAt t ((k + n) * slotSize) ∷ ahead t x) next)
-      g (skip-other i b g _ _ _ _ _ _ h)
+      subst (λ (x : ℕ). Gathers i b ms g x (ahead t x)) next
+      (gathers-next i b ms g (k + n) (ahead t (k + n)) (skip-run n (omega arith) (λ m s. none m (omega arith)))
+      (messageAt t ((k + n) * slotSize)) (ahead t (k + n + 1)) (ahead-used t (k + n) (omega arith) (not-unused i b g _ _ _ _ 0 0 h))
+      g (skip-other i b g _ _ _ _ _ _ h))
 
-  pub gathers-skip : (to : ℕ) → Skippable i b t k to → Gathers i b ms g (ahead t to)
+  pub gathers-skip : (to : ℕ) → Skippable i b t k to → Gathers i b ms g to (ahead t to)
   gathers-skip to q =
       let e : k + (to - k) ≡ to = omega (arith, q .onward) in
       rw e at (skip-run (to - k) (rw e (q .within)) (λ m s. q .none (k + m) (omega arith) (omega (arith, q .onward))))

@@ -16,6 +16,7 @@ use Prim.Native.Nat.{ℕ, zero, suc}
 use mathlib.Core.Bool.{Bool, true, false, _&&_, _||_, cond}
 use mathlib.Core.List.{List, [], _∷_}
 use lib.Dec.{ltb, eqb}
+use lib.ListN.{length}
 use Rattle.message.specs.declared.Plan.{Plan}
 use Rattle.message.specs.declared.Vote.{Vote}
 use Rattle.message.specs.declared.Vote.the-variants.{None, Cast}
@@ -100,11 +101,13 @@ unfoldable pub forSome : ℕ → (ℕ → Bool) → Bool
 forSome zero test = false
 forSome (suc count) test = test count || forSome count test
 
--- for the code: a 2a of (i, b) is there, the plan is in range and the acceptors with a 1b of (i, b) are a majority, the highest vote report
+-- for the code: a 2a of (i, b) is there, the plan is in range and the acceptors with a 1b of (i, b) are a majority, the highest vote report,
+-- and how many messages there are
 abbrev pub reportsOf : Plan → List Message → ℕ → ℕ → Declared.Reports
 reportsOf p inbox i b =
     record {
       proposed = any (is2a i b) inbox;
       quorum = isPlan p && isQuorum (p .acceptors) (λ a. any (is1b i b a) inbox);
       vote = highestReport i b inbox;
+      count = length inbox;
     }

@@ -1,6 +1,6 @@
 // What a leader reads from its inbox: for Phase2a, and Decided. Each is one pass over the inbox, which was judged before.
 //
-//     Reports, gather_reports               for Phase2a: a 2a seen, a majority of 1b, the highest vote report
+//     Reports, gather_reports               for Phase2a: a 2a seen, a majority of 1b, the highest vote report, how many messages there are
 //     is_decided_all, is_decided_some       Decided(i, value) for all instances of the plan, and for some
 //
 // What each of them means stands in specs/. No public function has a `requires`, and none looks past the inbox.
@@ -25,12 +25,13 @@ use message::Plan;
 use message::SLOT_SIZE;
 use message::Vote;
 
-// What Phase2a asks of the inbox: whether a 2a of the instance and ballot is there, whether the acceptors with a 1b are a majority, and
-// the highest vote report.
+// What Phase2a asks of the inbox: whether a 2a of the instance and ballot is there, whether the acceptors with a 1b are a majority, the
+// highest vote report, and how many messages there are, which is the place of the next one.
 pub struct Reports {
     pub proposed: bool,
     pub quorum: bool,
     pub vote: Vote,
+    pub count: usize,
 }
 
 // What the slots passed so far have shown of it, with the acceptors as a set.
@@ -38,6 +39,12 @@ struct Gathered {
     proposed: bool,
     mask: u8,
     vote: Vote,
+}
+
+// What all messages have shown of it, and how many they are.
+struct Passed {
+    seen: Gathered,
+    count: usize,
 }
 
 // Of two vote reports the one with the higher ballot, and of equals the first.
@@ -182,8 +189,8 @@ fn skip_block(
 }
 
 // The first block is passed slot by slot, and each later one only where it has a candidate; `due` is where the next block is tested.
-fn gather(inbox: &[u8], instance: u8, ballot: u8) -> Gathered
-    ensures { λ r. ⌜ Gathers instance ballot (leadingMessages (peekTable (now (inbox .entry)))) r [] ⌝ }
+fn gather(inbox: &[u8], instance: u8, ballot: u8) -> Passed
+    ensures { λ r. ⌜ Gathers instance ballot (leadingMessages (peekTable (now (inbox .entry)))) (r .seen) (r .count) [] ⌝ }
 {
     let count = inbox.len() / SLOT_SIZE;
     let starts = slot_starts();
@@ -197,7 +204,7 @@ fn gather(inbox: &[u8], instance: u8, ballot: u8) -> Gathered
     while place < count {
         let at = place * SLOT_SIZE;
         if inbox[at] == 0 {
-            return seen;
+            return Passed { seen, count: place };
         }
         if due <= place {
             due = place + BLOCK;
@@ -207,26 +214,30 @@ fn gather(inbox: &[u8], instance: u8, ballot: u8) -> Gathered
         seen = report_step(inbox, at, instance, ballot, seen);
         place += 1;
     }
-    seen
+    Passed { seen, count: place }
 }
 
 // What Phase2a asks of the inbox, in one pass.
 pub fn gather_reports(plan: Plan, inbox: &[u8], instance: u8, ballot: u8) -> Reports
     ensures { λ r. ⌜ r ≡ reportsOf plan (leadingMessages (peekTable (now (inbox .entry)))) instance ballot ⌝ }
 {
-    let seen = gather(inbox, instance, ballot);
+    let passed = gather(inbox, instance, ballot);
+    let seen = passed.seen;
+    let count = passed.count;
     let vote = seen.vote;
     if !message::is_plan(plan) {
         return Reports {
             proposed: seen.proposed,
             quorum: false,
             vote,
+            count,
         };
     }
     Reports {
         proposed: seen.proposed,
         quorum: quorum::is_majority(plan.acceptors, seen.mask),
         vote,
+        count,
     }
 }
 

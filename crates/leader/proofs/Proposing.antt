@@ -1,10 +1,12 @@
 -- From what one pass over the inbox gathered to the cases of `phase2aMessage`.
---     proposed-is, quorum-is, proposal-is     a 2a is there, the acceptors with a 1b are a majority, the value of the highest report
+--     proposed-is, quorum-is, proposal-is, count-is     a 2a is there, the acceptors with a 1b are a majority, the value of the highest report,
+--                                                       how many messages there are
 -- Assumes nothing.
 use Prim.Native.Nat.{ℕ}
 use mathlib.Core.Bool.{true}
 use mathlib.Core.List.{List}
 use mathlib.Core.Path.{_≡_, _∙_, ap}
+use lib.ListN.{length}
 use Rattle.message.specs.declared.Plan.{Plan}
 use Rattle.message.specs.declared.Message.{Message}
 use Rattle.message.specs.declared.Message.the-variants.{Phase2a}
@@ -23,3 +25,6 @@ module _ (p : Plan) (ms : List Message) (i b : ℕ) (r : Reports) (of-r : r ≡ 
 
   pub proposal-is : (val : ℕ) → val ≡ proposal (r .vote) → accepted (Phase2a i b val) ≡ accepted (Phase2a i b (proposal (highestReport i b ms)))
   proposal-is val e = ap (λ (v : ℕ). accepted (Phase2a i b v)) (e ∙ ap (λ (s : Reports). proposal (s .vote)) of-r)
+
+  pub count-is : r .count ≡ length ms
+  count-is = ap (λ (s : Reports). s .count) of-r

@@ -8,9 +8,10 @@
 --     decideSend                    kinds 7 and 8
 --     leaderKind, leaderVerdict     rows 7 to 14: what an event changes, or its refusal
 --     leaderStep                    the whole call
--- The laws of ownership are in Leader/Laws.antt, and what is judged in Leader/Sound.antt. Assumes nothing.
+-- The laws of ownership are in Leader/Laws.antt, what is judged in Leader/Sound.antt, and the own 2a's place in Leader/Own.antt. Assumes nothing.
 pub mod Laws
 pub mod Sound
+pub mod Own
 use Prim.Native.Nat.{ℕ, _%_}
 use mathlib.Core.Bool.{Bool, not, _&&_, cond}
 use mathlib.Core.List.{List}

@@ -12,8 +12,9 @@ ghost use Rattle.message.specs.Plan.{isPlan};
 ghost use Rattle.slots.specs.View.Bytes.{viewBytes};
 ghost use Rattle.change.specs.Change.{verdictOutcome, judgedOutcome, stepOf, applied};
 ghost use Rattle.inbox.specs.Inbox.{proposal, decided};
-ghost use Rattle.leader.specs.Leader.{owns, leaderJudged, receiptStore, receipt, sendOnly, phase1a, phase2aMessage};
+ghost use Rattle.leader.specs.Leader.{owns, leaderJudged, receiptStore, receipt, sendOnly, phase1a};
 ghost use Rattle.leader.specs.Leader.{keepOwn, sendBoth, phase2a, decideSend, leaderKind, leaderVerdict, leaderStep};
+ghost use Rattle.leader.specs.Leader.Own.{Next, Proposes};
 use change::Answer;
 use change::Change;
 use change::Judged;
@@ -23,6 +24,7 @@ use change::Verdict;
 use message::Message;
 use message::Plan;
 use message::Read;
+use message::SLOT_SIZE;
 use message::Vote;
 use slots::Send;
 use slots::Store;
@@ -126,57 +128,81 @@ fn proposal_of(vote: Vote) -> u8
     }
 }
 
+// The 2a that Phase2a sends, or its refusal; and the 2a's place in the inbox, which is known when all messages were passed.
+struct Proposal {
+    answer: Read,
+    place: usize,
+}
+
 // The 2a that Phase2a sends: 10 where the ballot is not owned, 12 where the inbox has a 2a of it or no majority of 1b messages.
-fn phase2a_message(plan: Plan, inbox: &[u8], who: u8, instance: u8, ballot: u8) -> Read
+fn phase2a_message(plan: Plan, inbox: &[u8], who: u8, instance: u8, ballot: u8) -> Proposal
     requires { ⌜ isPlan plan ≡ true ⌝ }
-    ensures { λ r. ⌜ readOutcome r ≡ phase2aMessage plan (viewBytes plan (now (inbox .entry)) .messages) who instance ballot ⌝ }
+    ensures { λ r. ⌜ Proposes plan (viewBytes plan (now (inbox .entry)) .messages) who instance ballot (readOutcome (r .answer)) (r .place) ⌝ }
 {
     if !owns_ballot(plan, who, ballot) {
-        return Read::Refused(10);
+        return Proposal {
+            answer: Read::Refused(10),
+            place: 0,
+        };
     }
     let reports = inbox::gather_reports(plan, inbox, instance, ballot);
     let proposed = reports.proposed;
     let quorum = reports.quorum;
     let vote = reports.vote;
+    let place = reports.count;
     if proposed {
-        return Read::Refused(12);
+        return Proposal {
+            answer: Read::Refused(12),
+            place,
+        };
     }
     if !quorum {
-        return Read::Refused(12);
+        return Proposal {
+            answer: Read::Refused(12),
+            place,
+        };
     }
-    Read::Message(Message::Phase2a {
-        ins: instance,
-        bal: ballot,
-        val: proposal_of(vote),
-    })
+    Proposal {
+        answer: Read::Message(Message::Phase2a {
+            ins: instance,
+            bal: ballot,
+            val: proposal_of(vote),
+        }),
+        place,
+    }
 }
 
-// The 2a is sent, and appended to the inbox unless there: 13 without room in N, then 14 without room in the inbox.
-fn send_both(plan: Plan, inbox: &[u8], network: &[u8], m: Message) -> Verdict
+// The 2a is sent, and stored in its place in the inbox: 13 without room in N, then 14 without room in the inbox.
+fn send_both(plan: Plan, inbox: &[u8], network: &[u8], m: Message, place: usize) -> Verdict
+    requires { ⌜ Next (viewBytes plan (now inbox) .messages) m place ⌝ }
     ensures { λ r. ⌜ verdictOutcome r ≡ sendBoth (viewBytes plan (now (inbox .entry))) (viewBytes plan (now (network .entry))) m ⌝ }
 {
     let send = slots::send_message(plan, network, m);
     match send {
-        Send::Slot { slot, store } => keep_own(plan, inbox, m, slot, store),
+        Send::Slot { slot, store } => keep_own(plan, inbox, m, place, slot, store),
         Send::NoRoom => Verdict::Refused(13),
     }
 }
 
-fn keep_own(plan: Plan, inbox: &[u8], m: Message, slot: usize, store: Store) -> Verdict
+fn keep_own(
+    plan: Plan,
+    inbox: &[u8],
+    m: Message,
+    place: usize,
+    slot: usize,
+    store: Store,
+) -> Verdict
+    requires { ⌜ Next (viewBytes plan (now inbox) .messages) m place ⌝ }
     ensures { λ r. ⌜ verdictOutcome r ≡ keepOwn (viewBytes plan (now (inbox .entry))) m slot store ⌝ }
 {
-    let send = slots::send_message(plan, inbox, m);
-    match send {
-        Send::Slot {
-            slot: _,
-            store: kept,
-        } => Verdict::Accepted(Change {
-            table: Update::Inbox(kept),
-            network: store,
-            sent: Sent::Slot(slot),
-        }),
-        Send::NoRoom => Verdict::Refused(14),
+    if inbox.len() / SLOT_SIZE <= place {
+        return Verdict::Refused(14);
     }
+    Verdict::Accepted(Change {
+        table: Update::Inbox(Store::Put { place, m }),
+        network: store,
+        sent: Sent::Slot(slot),
+    })
 }
 
 // Kind 6: the 2a, then its sending.
@@ -192,11 +218,13 @@ fn phase2a_of(
     ensures { λ r. ⌜ verdictOutcome r ≡
         phase2a plan (viewBytes plan (now (inbox .entry))) (viewBytes plan (now (network .entry))) who instance ballot ⌝ }
 {
-    let answer = phase2a_message(plan, inbox, who, instance, ballot);
+    let proposal = phase2a_message(plan, inbox, who, instance, ballot);
+    let answer = proposal.answer;
+    let place = proposal.place;
     let Read::Message(m) = answer else {
         return Verdict::Refused(message::read_refusal(answer));
     };
-    send_both(plan, inbox, network, m)
+    send_both(plan, inbox, network, m, place)
 }
 
 // Kind 4: the slot's message is taken by the reader, 8 where there is none.

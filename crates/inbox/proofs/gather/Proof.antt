@@ -13,7 +13,7 @@ use Rattle.inbox.proofs.gather.Tie as tie
 
 abbrev Inv-loop : tie.InvT-loop
 Inv-loop inbox instance ballot count starts seen₀ due₀ place₀ seen due place =
-    (place ≤ count) × Gathers instance ballot (leadingMessages (peekTable inbox)) seen (ahead inbox place)
+    (place ≤ count) × Gathers instance ballot (leadingMessages (peekTable inbox)) seen place (ahead inbox place)
 
 abbrev μ-loop : tie.MeasureT-loop
 μ-loop inbox instance ballot count starts seen₀ due₀ place₀ seen due place = 2 * (count - place) + (place + 1 - due)
@@ -28,7 +28,7 @@ gather-spec =
     (λ c. (search needs, gathers-start _ _ _))
     (λ c. search needs)
     (λ c. search needs)
-    (λ c. gathers-end _ _ _ _ _ (c .before .before .before .loop .inv .1) (ahead-unused _ _ (c .before .before .loop-test .taken) (c .if1 .taken)))
+    (λ c. gathers-end _ _ _ _ _ _ (c .before .before .before .loop .inv .1) (ahead-unused _ _ (c .before .before .loop-test .taken) (c .if1 .taken)))
     (λ c. search needs)
     (λ c κs. (search needs, c .before .before .before .before .before .before .slot-starts .ensures))
     (λ c. omega (arith, c .skip-block .ensures .onward, c .before .before .if2 .taken))
@@ -41,7 +41,7 @@ gather-spec =
     (λ c. search needs)
     (λ c. (
       search needs,
-      gathers-next _ _ _ _ _ (c .before .before .before .before .before .loop .inv .1)
+      gathers-next _ _ _ _ _ _ (c .before .before .before .before .before .loop .inv .1)
           _ _ (ahead-used _ _ (c .before .before .before .before .loop-test .taken) (c .before .before .if1 .left)) _ (c .report-step .ensures),
     ))
-    (λ c. gathers-end _ _ _ _ _ (c .before .loop .inv .1) (ahead-end _ _ (c .loop-test .left))))
+    (λ c. gathers-end _ _ _ _ _ _ (c .before .loop .inv .1) (ahead-end _ _ (c .loop-test .left))))

@@ -10,7 +10,7 @@ gather-reports-spec =
     (tie.spec
     (λ c κs. tt)
     (λ c κs. tt)
-    (λ c. reports-bad-plan _ _ _ _ (c .before .before .gather .ensures) _ (failed (c .before .is-plan .ensures) (c .if1 .taken)))
+    (λ c. reports-bad-plan _ _ _ _ _ (c .before .before .before .gather .ensures) _ (failed (c .before .is-plan .ensures) (c .if1 .taken)))
     (λ c κs. tt)
-    (λ c. reports-plan _ _ _ _ (c .before .before .before .gather .ensures) _
+    (λ c. reports-plan _ _ _ _ _ (c .before .before .before .before .gather .ensures) _
     (passed (c .before .before .is-plan .ensures) (c .before .if1 .left)) _ (c .is-majority .ensures)))

@@ -9,6 +9,10 @@ pub send-both-spec : {M : Type 1} → statement M
 unfolding sendBoth sending
 send-both-spec =
     tie.close
-    (tie.spec (λ c κs. tt) (λ c. search needs) (λ c κs. tt) (λ c. search needs) (λ c. rw
-    (← c .before .before .before .before .send-message .ensures, c .before .before .send .given .1) (c .keep-own .ensures)) (λ c. rw
-    (← c .before .before .send-message .ensures, c .enum-told .given .1)))
+    (tie.spec
+    (λ c κs. tt)
+    (λ c. search needs)
+    (λ c κs. search needs)
+    (λ c. search needs)
+    (λ c. rw (← c .before .before .before .before .send-message .ensures, c .before .before .send .given .1) (c .keep-own .ensures))
+    (λ c. rw (← c .before .before .send-message .ensures, c .enum-told .given .1)))

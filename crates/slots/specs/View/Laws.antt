@@ -4,6 +4,7 @@
 --     leading-used, -unused, -bad, -end     the messages from a place on, as a loop meets them
 --     Sent, send-sent          an accepted send: the first slot where the message stands, and what the table then holds
 --     send-full                a send without room: the message is absent and every slot is used
+--     send-absent, send-absent-full     on any bytes: a message that is absent goes after the leading ones, or has no room
 -- Assumes nothing.
 use Prim.Native.Nat.{ℕ, zero, suc, _+_, _-_, _/_, _≤_, _<_}
 use mathlib.Core.Bool.{Bool, true, false, cond, false≢true}
@@ -13,7 +14,7 @@ use mathlib.Core.Path.{_≡_, refl, sym, _∙_, ap, subst₂, fun-ext}
 use native.Mathlib.Nat.{add-zero, zero-add, le-of-suc-le-suc, not-suc-le-zero}
 use native.Mathlib.Numerals.{add-one}
 use native.Mathlib.Omega.{arith}
-use lib.Dec.{ltb}
+use lib.Dec.{ltb, eqb}
 use lib.ListN.{length, getD, drop, replicate, length-map, drop-of-length-le}
 use lib.Seq.{drop-cons}
 use borrow.Author.Tests.{ltb-true, ltb-false}
@@ -23,12 +24,12 @@ use Rattle.message.specs.Outcome.{accepted}
 use Rattle.message.specs.Plan.{isPlan}
 use Rattle.message.specs.Form.{slotOf, decode, isInRange}
 use Rattle.message.specs.Form.Laws.{decode-slotOf}
-use Rattle.slots.specs.Table.{Unused, Used, Bad, slotSize, isTableLength, slots, slotsUpTo, isTable}
+use Rattle.slots.specs.Table.{Unused, Used, Bad, slotSize, isTableLength, slots, slotsUpTo, isTable, sameBytes}
 use Rattle.slots.specs.declared.Place.{Place}
 use Rattle.slots.specs.declared.Place.the-variants.{At, Free, Full}
 use Rattle.slots.specs.Table.Holds.{Holds, holds-judged}
 use Rattle.slots.specs.Table.Laws.{length-slotsUpTo}
-use Rattle.slots.specs.Table.Scan.{peekSlot, peekTable}
+use Rattle.slots.specs.Table.Scan.{peekSlot, peekTable, locateFrom, locate}
 use Rattle.slots.specs.Table.Scan.Laws.{sameBytes-true, sameBytes-refl}
 use Rattle.slots.specs.Send.{sameMessage, placeFrom, placeIn, messageAt}
 use Rattle.slots.specs.Send.Laws.{read-holds, peek-table, locate-holds, store-holds}
@@ -189,3 +190,40 @@ send-full p room ms m e = go (placeFrom p 0 room ms m) (placeCase p 0 room ms m)
     go q (at i k n s b) e = absurd (let z : _≡_ {A = ℕ} 0 1 = cc in omega arith)
     go q (free i n s a) e = absurd (let z : _≡_ {A = ℕ} 0 1 = cc in omega arith)
     go q (full s a) e = (omega arith, a)
+
+-- of `room` slots, counted from `j`, the place after the first `used`
+record After (j used room : ℕ) (q : Place) : Type 0 where
+  free : used < room → q ≡ Free (j + used)
+  full : room ≤ used → q ≡ Full
+
+-- looking for a message that is absent up to the first unused slot
+locate-absent : (p : Plan) (m : Message) (ss : List (List ℕ)) (j : ℕ) → Absent (leadingMessages (map peekSlot ss)) m
+    → After j (length (leadingMessages (map peekSlot ss))) (length ss) (locateFrom j ss (slotOf p m))
+unfolding locateFrom leadingMessages peekSlot messageAt
+locate-absent p m [] j a = record { free = λ h. absurd (not-suc-le-zero h); full = λ h. refl }
+locate-absent p m (s ∷ ss) j a = go (eqb (getD s 0 0) 0) (sameBytes s (slotOf p m)) refl (locate-absent p m ss (suc j)) a
+  where
+    go : (z b : Bool) → sameBytes s (slotOf p m) ≡ b
+        → (Absent (leadingMessages (map peekSlot ss)) m → After (suc j) (length (leadingMessages (map peekSlot ss))) (length ss) (locateFrom (suc j) ss (slotOf p m)))
+        → Absent (leadingMessages (cond z Unused (Used (decode s)) ∷ map peekSlot ss)) m
+        → After j (length (leadingMessages (cond z Unused (Used (decode s)) ∷ map peekSlot ss))) (suc (length ss))
+        (cond z (Free j) (cond b (At j) (locateFrom (suc j) ss (slotOf p m))))
+    go true b e rest a = record { free = λ h. ap Free (sym (add-zero j)); full = λ h. absurd (not-suc-le-zero h) }
+    go false true e rest a = absurd (a 0 (ap accepted (ap decode (sameBytes-true s (slotOf p m) e) ∙ decode-slotOf p m)))
+    go false false e rest a =
+        let r = rest (λ k. a (suc k)) in
+        record { free = λ h. r .free (le-of-suc-le-suc h) ∙ ap Free (omega arith); full = λ h. r .full (le-of-suc-le-suc h) }
+
+-- on any bytes: a message that is absent is appended to the messages there, where there is room
+module _ (p : Plan) (t : List ℕ) (m : Message) (a : Absent (viewBytes p t .messages) m) (used : ℕ) (count : used ≡ length (viewBytes p t .messages)) where
+  after-leading : After 0 used (length t / slotSize) (locate t (slotOf p m))
+  unfolding locate peekTable slots
+  after-leading =
+      subst₂ (λ (n room : ℕ). After 0 n room (locate t (slotOf p m))) (sym count) (length-slotsUpTo (length t / slotSize) t)
+      (locate-absent p m (slots t) 0 a)
+
+  pub send-absent : used < length t / slotSize → viewBytes p t .send m ≡ Slot used (Put used m)
+  send-absent h = ap (λ (q : Place). sendOf q m) (after-leading .free h ∙ ap Free (zero-add used))
+
+  pub send-absent-full : length t / slotSize ≤ used → viewBytes p t .send m ≡ NoRoom
+  send-absent-full h = ap (λ (q : Place). sendOf q m) (after-leading .full h)
