@@ -5,7 +5,7 @@
 --     form-step, last-step                  the slot at a place, with the two bytes after it
 --     none-seen, four-lanes, slot-lanes     four tests, and eight, each beside what was seen before
 -- Assumes nothing.
-use Prim.Native.Nat.{ℕ, _+_, _-_, _*_, _/_, _≤_, _<_}
+use Prim.Native.Nat.{ℕ, zero, suc, _+_, _-_, _*_, _/_, _%_, _≤_, _<_}
 use mathlib.Core.Bool.{Bool, true, false, not, _&&_, _||_, cond, and-assoc, and-true}
 use mathlib.Core.List.{List, [], _∷_, map}
 use mathlib.Core.Path.{_≡_, refl, sym, _∙_, ap}
@@ -13,12 +13,12 @@ use native.Mathlib.Decide.{decLe, ℕ-discrete}
 use native.Mathlib.Nat.{not-suc-le-zero}
 use native.Mathlib.Omega.{arith}
 use lib.Dec.{leb, ltb, eqb, leb·zero}
-use lib.ListN.{length, getD, take, replicate, List·getD-map}
-use lib.Seq.{getD-set-other}
-use borrow.Author.Tests.{eq-eqb, ne-eqb, le-leb, lt-leb, lt-ltb, le-ltb}
+use lib.ListN.{length, getD, take, List·getD-map}
+use borrow.Author.Tests.{eq-eqb, ne-eqb, le-leb, lt-leb, lt-ltb, le-ltb, eqb-true}
 use Rattle.message.specs.declared.Plan.{Plan}
 use Rattle.message.specs.declared.Message.{Message}
 use Rattle.message.specs.Outcome.{accepted, refused, refuseIf}
+use Rattle.message.specs.Outcome.Laws.{both}
 use Rattle.message.specs.Plan.{isPlan}
 use Rattle.message.specs.Plan.Laws.{plan-bounds}
 use Rattle.message.specs.Form.{mapLength, mapLengths, fieldsMessage, decode, isValue, isVote, isInRange}
@@ -30,10 +30,10 @@ use Rattle.tables.specs.declared.Eight.{Eight}
 use Rattle.slots.specs.Table.{Unused, Bad, slotSize, slots, isZero, usedSlot, readSlot, readTable}
 use Rattle.slots.specs.All.{all}
 use Rattle.slots.specs.Table.Scan.{leadingUsed}
-use Rattle.slots.specs.Table.Laws.{isZero-replicate, readSlot-unused}
+use Rattle.slots.specs.Table.Laws.{readSlot-unused}
 use Rattle.tables.specs.Tables.Bounds.{distanceFrom, isWithin, putBound, putRow, lows, spansOf, Bounded, fourWithin, isForm, isClear, areClear, eightAt}
 use Rattle.tables.specs.Tables.Each.{interchange}
-use Rattle.tables.specs.Tables.Edge.{isUsed, usedAt, zero-at}
+use Rattle.tables.specs.Tables.Edge.{isUsed, usedAt}
 use Rattle.slots.proofs.Six.{slot-six}
 
 pub over-more : (a b : ℕ) → b < a → eqb (a - b) 0 ≡ leb a b
@@ -111,6 +111,14 @@ within-map m = rw (le-leb m m (omega arith), le-leb (m - m) 0 (omega arith)) (go
     go true = refl
     go false = refl
 
+within-other : (low m : ℕ) → low < 255 → (low ≡ m → ⊥) → isWithin low m 0 ≡ false
+unfolding isWithin
+within-other low m l n = go (decLe low m)
+  where
+    go : Dec (low ≤ m) → cond (leb low m) (leb 255 (low + 0) || leb (m - low) 0) (leb (m + 256 - low) 0) ≡ false
+    go (yes x) = rw (le-leb low m x, lt-leb 255 (low + 0) (omega arith)) (lt-leb (m - low) 0 (omega (arith, n)))
+    go (no x) = rw (lt-leb low m (omega arith)) (lt-leb (m + 256 - low) 0 (omega arith))
+
 -- a slot whose message is refused, and one whose message is known
 none-used : (zeros rest : Bool) (k : ℕ) → isUsed (cond zeros Unused (usedSlot (refused k) rest)) ≡ false
 none-used true rest k = refl
@@ -122,69 +130,31 @@ range-used true true m = refl
 range-used true false m = refl
 range-used false rest m = refl
 
--- one bound, and one row, leave the first bounds of other rows as they were
-bound-other : (bounds : List ℕ) (map place byte m : ℕ) → (map * 8 + place ≡ m * 8 → ⊥) → getD (putBound bounds map place byte) (m * 8) 0 ≡ getD bounds (m * 8) 0
-unfolding putBound
-bound-other bounds map place byte m n = getD-set-other bounds (map * 8 + place) (m * 8) byte 0 (λ e. n (sym e))
+-- a test of each number below
+below : ℕ → (ℕ → Bool) → Bool
+below zero f = true
+below (suc n) f = below n f && f n
 
-row-other : (bounds row : List ℕ) (map m : ℕ) → (m ≡ map → ⊥) → getD (putRow bounds map row) (m * 8) 0 ≡ getD bounds (m * 8) 0
-unfolding putRow
-row-other bounds row map m n =
-    bound-other _ map 7 (getD row 7 0) m (λ e. n (omega arith))
-    ∙ bound-other _ map 6 (getD row 6 0) m (λ e. n (omega arith))
-    ∙ bound-other _ map 5 (getD row 5 0) m (λ e. n (omega arith))
-    ∙ bound-other _ map 4 (getD row 4 0) m (λ e. n (omega arith))
-    ∙ bound-other _ map 3 (getD row 3 0) m (λ e. n (omega arith))
-    ∙ bound-other _ map 2 (getD row 2 0) m (λ e. n (omega arith))
-    ∙ bound-other _ map 1 (getD row 1 0) m (λ e. n (omega arith))
-    ∙ bound-other bounds map 0 (getD row 0 0) m (λ e. n (omega arith))
+below-at : (f : ℕ → Bool) (n k : ℕ) → below n f ≡ true → k < n → f k ≡ true
+unfolding below
+below-at f zero k e h = absurd (not-suc-le-zero h)
+below-at f (suc n) k e h = go (ℕ-discrete k n) (λ l. below-at f n k (both (below n f) (f n) e .0) l)
+  where
+    go : Dec (k ≡ n) → (k < n → f k ≡ true) → f k ≡ true
+    go (yes x) rest = rw x (both (below n f) (f n) e .1)
+    go (no x) rest = rest (omega arith)
 
--- before a row is put
-abbrev blank : List ℕ
-blank = replicate 2048 0
+-- the lowest map byte of a row: the map, where it is known, else 3F
+rowMap : ℕ → Bool
+rowMap row = cond (eqb (mapLength row) 0) (eqb (getD lows (row * 8) 0) 0x3F) (eqb (getD lows (row * 8) 0) row)
 
--- an unknown map is none of the six
-module _ (m : ℕ) (u : mapLength m ≡ 0) where
-  unlike : (map : ℕ) → (mapLength map ≡ 0 → ⊥) → m ≡ map → ⊥
-  unlike map known e = known (ap mapLength (sym e) ∙ u)
+rows-map : below 32 rowMap ≡ true
+unfolding below rowMap lows putRow putBound mapLength mapLengths
+rows-map = refl
 
-  unknown : (m ≡ 0x09 → ⊥) × (m ≡ 0x07 → ⊥) × (m ≡ 0x1F → ⊥) × (m ≡ 0x19 → ⊥) × (m ≡ 0x1B → ⊥) × (m ≡ 0x10 → ⊥)
-  unfolding mapLength mapLengths
-  unknown = (
-    unlike 0x09 (λ x. not-suc-le-zero {n = 0} (omega (arith, x))),
-    unlike 0x07 (λ x. not-suc-le-zero {n = 0} (omega (arith, x))),
-    unlike 0x1F (λ x. not-suc-le-zero {n = 0} (omega (arith, x))),
-    unlike 0x19 (λ x. not-suc-le-zero {n = 0} (omega (arith, x))),
-    unlike 0x1B (λ x. not-suc-le-zero {n = 0} (omega (arith, x))),
-    unlike 0x10 (λ x. not-suc-le-zero {n = 0} (omega (arith, x))),
-  )
-
-  six-others : (bounds r09 r07 r1F r19 r1B r10 : List ℕ)
-      → getD (putRow (putRow (putRow (putRow (putRow (putRow bounds 0x09 r09) 0x07 r07) 0x1F r1F) 0x19 r19) 0x1B r1B) 0x10 r10) (m * 8) 0
-      ≡ getD bounds (m * 8) 0
-  six-others bounds r09 r07 r1F r19 r1B r10 =
-      row-other _ r10 0x10 m (unknown .5)
-      ∙ row-other _ r1B 0x1B m (unknown .4)
-      ∙ row-other _ r19 0x19 m (unknown .3)
-      ∙ row-other _ r1F 0x1F m (unknown .2)
-      ∙ row-other _ r07 0x07 m (unknown .1)
-      ∙ row-other bounds r09 0x09 m (unknown .0)
-
-  zeros-at : getD blank (m * 8) 0 ≡ 0
-  zeros-at = zero-at blank (m * 8) (isZero-replicate 2048)
-
-  -- its lowest first byte is 0, and that of 0 is 1
-  low-unknown : (m ≡ 0 → ⊥) → getD lows (m * 8) 0 ≡ 0
-  unfolding lows
-  low-unknown n = six-others _ _ _ _ _ _ _ ∙ row-other blank _ 0 m n ∙ zeros-at
-
-  span-unknown : (p : Plan) → getD (spansOf p) (m * 8) 0 ≡ 0
-  unfolding spansOf
-  span-unknown p = six-others _ _ _ _ _ _ _ ∙ zeros-at
-
-low-zero : getD lows (0 * 8) 0 ≡ 1
-unfolding lows putRow putBound mapLength mapLengths
-low-zero = refl
+other-known : mapLength (0x3F % 32) ≡ 0 → ⊥
+unfolding mapLength mapLengths
+other-known x = not-suc-le-zero {n = 0} (omega (arith, x))
 
 module _ (p : Plan) where
   plan-none : isPlan p ≡ false → (ss : List (List ℕ)) → leadingUsed (map (readSlot p) ss) ≡ 0
@@ -200,14 +170,25 @@ module _ (p : Plan) where
   unfolding readTable
   plan-used e t = sym (plan-none e (slots t))
 
-  -- its first byte does not lie within the bounds
-  unknown-map : (m : ℕ) → mapLength m ≡ 0 → isWithin (getD lows (m * 8) 0) m (getD (spansOf p) (m * 8) 0) ≡ false
-  unfolding isWithin
-  unknown-map m u = rw (span-unknown m u p) (go (ℕ-discrete m 0))
+  -- of a row only the map itself lies within the bounds of the first place
+  rows-span : below 32 (λ row. eqb (getD (spansOf p) (row * 8) 0) 0) ≡ true
+  unfolding below spansOf putRow putBound
+  rows-span = refl
+
+  unknown-map : (m : ℕ) → mapLength m ≡ 0 → isWithin (getD lows (m % 32 * 8) 0) m (getD (spansOf p) (m % 32 * 8) 0) ≡ false
+  unfolding rowMap
+  unknown-map m u =
+      rw (eqb-true (getD (spansOf p) (m % 32 * 8) 0) 0
+      (below-at (λ row. eqb (getD (spansOf p) (row * 8) 0) 0) 32 (m % 32) rows-span (omega arith)))
+      (go (ℕ-discrete (mapLength (m % 32)) 0) (below-at rowMap 32 (m % 32) rows-map (omega arith)))
     where
-      go : Dec (m ≡ 0) → isWithin (getD lows (m * 8) 0) m 0 ≡ false
-      go (yes z) = rw (z, low-zero) refl
-      go (no n) = rw (low-unknown m u n) (within-zero m ∙ ne-eqb m 0 n)
+      go : Dec (mapLength (m % 32) ≡ 0) → rowMap (m % 32) ≡ true → isWithin (getD lows (m % 32 * 8) 0) m 0 ≡ false
+      go (yes z) e =
+          rw (eqb-true (getD lows (m % 32 * 8) 0) 0x3F (rw (eq-eqb (mapLength (m % 32)) 0 z) at e))
+          (within-other 0x3F m (omega arith) (λ x. other-known (rw (← x) at z)))
+      go (no z) e =
+          rw (eqb-true (getD lows (m % 32 * 8) 0) (m % 32) (rw (ne-eqb (mapLength (m % 32)) 0 z) at e))
+          (within-other (m % 32) m (omega arith) (λ x. z (ap mapLength x ∙ u)))
 
   module _ (e : isPlan p ≡ true) (b1 b2 b3 b4 b5 b6 b7 : ℕ) where
     ins : isWithin 0 b1 (p .rms - 1) ≡ ltb b1 (p .rms)

@@ -1,26 +1,19 @@
 -- Equal parts of bytes, each judged as a table.
 --     part-within                      a part lies within the bytes
 --     parts-none, -step, -stop, -end   no part, one part further, a part that is no table, and all parts
---     unused-table, unused-parts       zeros are a table, and so are the parts of zeros
 -- Assumes nothing.
 use Prim.Native.Nat.{ℕ, zero, suc, _+_, _-_, _*_, _/_, _≤_, _<_}
 use mathlib.Core.Bool.{Bool, true, false, _&&_}
-use mathlib.Core.List.{List, [], _∷_}
+use mathlib.Core.List.{List}
 use mathlib.Core.Path.{_≡_, refl, sym, _∙_, ap}
 use native.Mathlib.Decide.{ℕ-discrete}
 use native.Mathlib.Nat.{le-trans, suc-mul, mul-le-mul-right, mul-div-le, add-sub-cancel-left, not-suc-le-zero}
 use native.Mathlib.Numerals.{add-one}
 use native.Mathlib.Omega.{arith}
-use lib.Dec.{eqb}
-use lib.ListN.{length, take, drop}
+use lib.ListN.{take, drop}
 use Rattle.message.specs.declared.Plan.{Plan}
-use Rattle.message.specs.Form.{mapLength, mapLengths}
-use Rattle.message.specs.Outcome.Laws.{both}
-use Rattle.slots.specs.All.{all}
-use Rattle.slots.specs.Table.{slotSize, isZero, isTable}
-use Rattle.slots.specs.Table.Laws.{isTable-first}
-use Rattle.tables.specs.Tables.{tablesUpTo, areTables}
-use Rattle.tables.specs.Tables.Edge.{zero-at}
+use Rattle.slots.specs.Table.{isTable}
+use Rattle.tables.specs.Tables.{tablesUpTo}
 
 pub part-within : (n parts k : ℕ) → k < parts → k * (n / parts) + n / parts ≤ n
 part-within n parts k h = le-trans (rw suc-mul at (mul-le-mul-right {m = suc k} {n = parts} (n / parts) h)) (mul-div-le n parts)
@@ -57,29 +50,3 @@ module _ (p : Plan) (size : ℕ) (t : List ℕ) where
 
   pub parts-end : (k parts : ℕ) → k ≤ parts → parts ≤ k → tablesUpTo p size k t ≡ true → true ≡ tablesUpTo p size parts t
   parts-end k parts h l e = let same : k ≡ parts = omega arith in sym e ∙ ap (λ (n : ℕ). tablesUpTo p size n t) same
-
--- zeros
-zero-take : (n : ℕ) (t : List ℕ) → isZero t ≡ true → isZero (take n t) ≡ true
-unfolding isZero all
-zero-take zero t z = refl
-zero-take (suc n) [] z = refl
-zero-take (suc n) (x ∷ t) z = let b = both (eqb x 0) (all (λ y. eqb y 0) t) z in rw (b .0) (zero-take n t (b .1))
-
-zero-drop : (n : ℕ) (t : List ℕ) → isZero t ≡ true → isZero (drop n t) ≡ true
-unfolding isZero all
-zero-drop zero t z = z
-zero-drop (suc n) [] z = refl
-zero-drop (suc n) (x ∷ t) z = zero-drop n t (both (eqb x 0) (all (λ y. eqb y 0) t) z .1)
-
-module _ (p : Plan) where
-  pub unused-table : (t : List ℕ) → isZero t ≡ true → isTable p t ≡ true
-  unfolding mapLength mapLengths
-  unused-table t z = isTable-first p t (ap mapLength (zero-at t 0 z)) ∙ zero-take (length t / slotSize * slotSize) t z
-
-  pub unused-parts : (parts : ℕ) (t : List ℕ) → isZero t ≡ true → areTables p parts t ≡ true
-  unfolding areTables tablesUpTo
-  unused-parts parts t z = go (length t / parts) parts
-    where
-      go : (size count : ℕ) → tablesUpTo p size count t ≡ true
-      go size zero = refl
-      go size (suc count) = rw (unused-table _ (zero-take size (drop (count * size) t) (zero-drop (count * size) t z))) (go size count)

@@ -53,14 +53,14 @@ fn is_zero(bytes: &[u8]) -> bool
     any == 0
 }
 
-// A row of bounds for each first byte. It is longer than a slot by the two bytes after it, which have no bounds, so that eight bytes are
+// A row of bounds for each of 32 maps. It is longer than a slot by the two bytes after it, which have no bounds, so that eight bytes are
 // looked at together.
 const ROW_SIZE: usize = 8;
 
-const BOUNDS: usize = 2048;
+const BOUNDS: usize = 256;
 
 fn put_row(bounds: &mut [u8; BOUNDS], map: usize, row: [u8; ROW_SIZE])
-    requires { ⌜ map < 256 ⌝ }
+    requires { ⌜ map < 32 ⌝ }
     ensures { λ _. ⌜ now (bounds .exit) ≡ putRow (now (bounds .entry)) map row ⌝ }
 {
     let at = map * ROW_SIZE;
@@ -74,13 +74,12 @@ fn put_row(bounds: &mut [u8; BOUNDS], map: usize, row: [u8; ROW_SIZE])
     bounds[at + 7] = row[7];
 }
 
-// The lowest bytes: the map itself, 1 for a value and for the ballot of a 1a, else 0. In the row of 0 the first byte is to be 1, which it
-// is not.
+// The lowest bytes: the map itself, 1 for a value and for the ballot of a 1a, else 0. In the row of an unknown map they are a byte that is
+// looked up in another row.
 fn low_bounds() -> [u8; BOUNDS]
     ensures { λ r. ⌜ r ≡ lows ⌝ }
 {
-    let mut low = [0u8; BOUNDS];
-    put_row(&mut low, 0x00, [1, 0, 0, 0, 0, 0, 0, 0]);
+    let mut low = [0x3Fu8; BOUNDS];
     put_row(&mut low, 0x09, [0x09, 0, 1, 0, 0, 0, 0, 0]);
     put_row(&mut low, 0x07, [0x07, 0, 0, 0, 0, 0, 0, 0]);
     put_row(&mut low, 0x1F, [0x1F, 0, 0, 0, 0, 1, 0, 0]);
@@ -91,7 +90,7 @@ fn low_bounds() -> [u8; BOUNDS]
 }
 
 // How far above the lowest a byte may lie: up to an instance and an acceptor of the plan, 2 for a value, 255 for a ballot and after the
-// slot, and not at all for the map and after the message. An unknown map lies above its lowest byte, 0.
+// slot, and not at all for the map and after the message.
 fn spans(plan: Plan) -> [u8; BOUNDS]
     requires { ⌜ isPlan plan ≡ true ⌝ }
     ensures { λ r. ⌜ r ≡ spansOf plan ⌝ }
@@ -155,7 +154,7 @@ fn add_four(
     table: &[u8],
     at: usize,
 ) -> Four
-    requires { ⌜ (row + 4 ≤ 2048) × (at + 4 ≤ length (now table)) ⌝ }
+    requires { ⌜ (row + 4 ≤ 256) × (at + 4 ≤ length (now table)) ⌝ }
     ensures { λ r. ⌜ isClear r ≡ (isClear seen && fourWithin (now (low .entry)) (now (span .entry)) row (now (table .entry)) at) ⌝ }
 {
     Four {
@@ -171,7 +170,7 @@ fn add_slot(seen: Eight, low: &[u8; BOUNDS], span: &[u8; BOUNDS], table: &[u8], 
     requires { ⌜ at + 8 ≤ length (now table) ⌝ }
     ensures { λ r. ⌜ areClear r ≡ (areClear seen && isForm (now (low .entry)) (now (span .entry)) (now (table .entry)) at) ⌝ }
 {
-    let row = table[at] as usize * ROW_SIZE;
+    let row = table[at] as usize % 32 * ROW_SIZE;
     Eight {
         front: add_four(seen.front, low, span, row, table, at),
         back: add_four(seen.back, low, span, row + 4, table, at + 4),
@@ -337,28 +336,12 @@ fn are_tables(
     true
 }
 
-// Whether neither N nor an inbox has a byte that is not zero; where N has a first byte the others are not looked at.
-fn are_unused(network: &[u8], inboxes: &[u8]) -> bool
-    ensures { λ r. ⌜ (r ≡ true → (isZero (now (network .entry)) ≡ true) × (isZero (now (inboxes .entry)) ≡ true)) ⌝ }
-{
-    if message::byte_at(network, 0) != 0 {
-        return false;
-    }
-    if !is_zero(network) {
-        return false;
-    }
-    is_zero(inboxes)
-}
-
-// The plan, N, and the inboxes as so many equal parts: 1, 5 or 6. No bounds are made for tables without a used slot.
+// The plan, N, and the inboxes as so many equal parts: 1, 5 or 6. All share one pair of bounds.
 pub fn judge(plan: Plan, network: &[u8], parts: usize, inboxes: &[u8]) -> Judged
     ensures { λ r. ⌜ judgedOutcome r ≡ tablesJudged plan (now (network .entry)) parts (now (inboxes .entry)) ⌝ }
 {
     if !message::is_plan(plan) {
         return Judged::Refused(1);
-    }
-    if are_unused(network, inboxes) {
-        return Judged::Sound;
     }
     let low = low_bounds();
     let span = spans(plan);

@@ -15,13 +15,11 @@ low-bounds-spec =
     (λ c κs. search needs)
     (λ c κs. search needs)
     (λ c κs. search needs)
-    (λ c κs. search needs)
     (λ c. rw (
-      c .put-row7 .ensures,
-      c .before .before .put-row6 .ensures,
-      c .before .before .before .before .put-row5 .ensures,
-      c .before .before .before .before .before .before .put-row4 .ensures,
-      c .before .before .before .before .before .before .before .before .put-row3 .ensures,
-      c .before .before .before .before .before .before .before .before .before .before .put-row2 .ensures,
-      c .before .before .before .before .before .before .before .before .before .before .before .before .put-row .ensures,
+      c .put-row6 .ensures,
+      c .before .before .put-row5 .ensures,
+      c .before .before .before .before .put-row4 .ensures,
+      c .before .before .before .before .before .before .put-row3 .ensures,
+      c .before .before .before .before .before .before .before .before .put-row2 .ensures,
+      c .before .before .before .before .before .before .before .before .before .before .put-row .ensures,
     )))

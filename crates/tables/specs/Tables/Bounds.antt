@@ -5,7 +5,7 @@
 --     fourWithin, isForm         the slot's bytes and the two after it lie within the bounds of its map
 --     isClear, areClear, eightAt     four bytes that are all zero, and eight; a slot's bytes and the two after it
 -- proofs/Forms.antt says that such a slot is a used one. Assumes nothing.
-use Prim.Native.Nat.{ℕ, _+_, _-_, _*_}
+use Prim.Native.Nat.{ℕ, _+_, _-_, _*_, _%_}
 use mathlib.Core.Bool.{Bool, true, _&&_, _||_, cond}
 use mathlib.Core.List.{List, [], _∷_}
 use mathlib.Core.Path.{_≡_}
@@ -35,11 +35,10 @@ putRow bounds map row =
     map 0 (getD row 0 0)) map 1 (getD row 1 0)) map 2 (getD row 2 0)) map 3 (getD row 3 0)) map 4 (getD row 4 0)) map 5 (getD row 5 0))
     map 6 (getD row 6 0)) map 7 (getD row 7 0)
 
--- the lowest bytes: the map itself, 1 for a value and for the ballot of a 1a; in the row of 0 its first byte is to be 1
+-- the lowest bytes: the map itself, 1 for a value and for the ballot of a 1a; in the row of an unknown map 3F, which is looked up in that of 1F
 unfoldable pub lows : List ℕ
 lows =
-    putRow (putRow (putRow (putRow (putRow (putRow (putRow (replicate 2048 0)
-    0x00 (1 ∷ 0 ∷ 0 ∷ 0 ∷ 0 ∷ 0 ∷ 0 ∷ 0 ∷ []))
+    putRow (putRow (putRow (putRow (putRow (putRow (replicate 256 0x3F)
     0x09 (0x09 ∷ 0 ∷ 1 ∷ 0 ∷ 0 ∷ 0 ∷ 0 ∷ 0 ∷ []))
     0x07 (0x07 ∷ 0 ∷ 0 ∷ 0 ∷ 0 ∷ 0 ∷ 0 ∷ 0 ∷ []))
     0x1F (0x1F ∷ 0 ∷ 0 ∷ 0 ∷ 0 ∷ 1 ∷ 0 ∷ 0 ∷ []))
@@ -50,7 +49,7 @@ lows =
 -- how far above the lowest: up to an instance and an acceptor of the plan, 2 for a value, 255 for a ballot and after the slot
 unfoldable pub spansOf : Plan → List ℕ
 spansOf p =
-    putRow (putRow (putRow (putRow (putRow (putRow (replicate 2048 0)
+    putRow (putRow (putRow (putRow (putRow (putRow (replicate 256 0)
     0x09 (0 ∷ (p .rms - 1) ∷ 254 ∷ 0 ∷ 0 ∷ 0 ∷ 255 ∷ 255 ∷ []))
     0x07 (0 ∷ (p .rms - 1) ∷ (p .acceptors - 1) ∷ 255 ∷ 0 ∷ 0 ∷ 255 ∷ 255 ∷ []))
     0x1F (0 ∷ (p .rms - 1) ∷ (p .acceptors - 1) ∷ 255 ∷ 255 ∷ 1 ∷ 255 ∷ 255 ∷ []))
@@ -74,7 +73,7 @@ fourWithin low span row t at =
 
 -- the slot's bytes and the two after it lie within the bounds of its map
 unfoldable pub isForm : List ℕ → List ℕ → List ℕ → ℕ → Bool
-isForm low span t at = fourWithin low span (getD t at 0 * 8) t at && fourWithin low span (getD t at 0 * 8 + 4) t (at + 4)
+isForm low span t at = fourWithin low span (getD t at 0 % 32 * 8) t at && fourWithin low span (getD t at 0 % 32 * 8 + 4) t (at + 4)
 
 unfoldable pub isClear : Four → Bool
 isClear s = eqb (s .b0) 0 && eqb (s .b1) 0 && eqb (s .b2) 0 && eqb (s .b3) 0

@@ -72,7 +72,7 @@ leading-next (Unused ∷ l) = refl
 leading-next (Used m ∷ l) = leading-next l
 leading-next (Bad ∷ l) = refl
 
-pub zero-at : (l : List ℕ) (i : ℕ) → isZero l ≡ true → getD l i 0 ≡ 0
+zero-at : (l : List ℕ) (i : ℕ) → isZero l ≡ true → getD l i 0 ≡ 0
 unfolding isZero all
 zero-at [] i e = refl
 zero-at (x ∷ l) zero e = eqb-true x 0 (both (eqb x 0) (all (λ y. eqb y 0) l) e .0)
