@@ -128,7 +128,7 @@ fn proposal_of(vote: Vote) -> u8
     }
 }
 
-// The 2a that Phase2a sends, or its refusal; and the 2a's place in the inbox, which is known when all messages were passed.
+// The 2a that Phase2a sends, or its refusal; and with a 2a its place, after the messages of the inbox. With a refusal the place says nothing.
 struct Proposal {
     answer: Read,
     place: usize,
@@ -184,6 +184,7 @@ fn send_both(plan: Plan, inbox: &[u8], network: &[u8], m: Message, place: usize)
     }
 }
 
+// The own 2a after the messages of the inbox; 14 where no slot is left.
 fn keep_own(
     plan: Plan,
     inbox: &[u8],

@@ -1,7 +1,6 @@
 -- The bounds of a slot's bytes say what the reader says: a slot is a form exactly when it is used.
---     over-zero, distance-of, within-in     what the code tests of a byte
+--     over-more, over-none, distance-above, -below, within-in     what the code tests of a byte
 --     plan-used                             no slot is used under a plan out of range
---     unknown-map                           an unknown map does not lie within its bounds
 --     form-step, last-step                  the slot at a place, with the two bytes after it
 --     none-seen, four-lanes, slot-lanes     four tests, and eight, each beside what was seen before
 -- Assumes nothing.

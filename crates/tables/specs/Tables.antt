@@ -1,4 +1,5 @@
--- Judging N and the inboxes beside it (document 01, rows 1, 5 and 6 of "Refusals by place").
+-- What `tables::judge` answers of N and the inboxes beside it. Document 01's rows are in `recordJudged` and `leaderJudged`, which say the same
+-- of their tables.
 --     tablesUpTo, areTables     so many equal parts, each of them a table by itself
 --     tablesJudged              the plan, N and the inboxes
 -- Its laws are in Tables/Laws.antt, and how the code judges slots by bounds in the other files of Tables/. Assumes nothing.
@@ -20,7 +21,7 @@ unfoldable pub tablesUpTo : Plan → ℕ → ℕ → List ℕ → Bool
 tablesUpTo p size zero t = true
 tablesUpTo p size (suc count) t = isTable p (take size (drop (count * size) t)) && tablesUpTo p size count t
 
--- each of so many equal parts is a table by itself
+-- each of so many equal parts is a table by itself; bytes after the last of them are the lengths' affair (row 2)
 unfoldable pub areTables : Plan → ℕ → List ℕ → Bool
 areTables p parts t = tablesUpTo p (length t / parts) parts t
 

@@ -4,6 +4,7 @@
 //     low_bounds, spans      for each map the lowest byte at each place of a slot, and how far above it a byte may lie
 //     add_four, add_slot     a slot's bytes beside the bounds of its map, eight at a time
 //     edge, are_forms        where the used slots end, and whether each of them holds a message
+//     is_table_within, are_tables     a table, and so many equal parts, by bounds that were made
 //     is_table               row 5 of "Refusals by place" for N alone
 //     judge                  rows 5 and 6 for N and the inboxes, and row 1 before them
 //
@@ -89,8 +90,8 @@ fn low_bounds() -> [u8; BOUNDS]
     low
 }
 
-// How far above the lowest a byte may lie: up to an instance and an acceptor of the plan, 2 for a value, 255 for a ballot and after the
-// slot, and not at all for the map and after the message.
+// How far above the lowest a byte may lie: up to the last instance and acceptor of the plan, 1 for a value, 255 for a ballot (254 in a 1a)
+// and after the slot, and not at all for the map and after the message.
 fn spans(plan: Plan) -> [u8; BOUNDS]
     requires { ⌜ isPlan plan ≡ true ⌝ }
     ensures { λ r. ⌜ r ≡ spansOf plan ⌝ }
@@ -280,16 +281,19 @@ fn are_forms(plan: Plan, low: &[u8; BOUNDS], span: &[u8; BOUNDS], table: &[u8], 
     are_clear(seen)
 }
 
-// Whether every slot is unused or holds a message, and used slots come first, in one pass.
+// Whether every slot is unused or holds a message, and used slots come first, in one pass. Where the first byte is no map no slot is used.
 fn is_table_within(plan: Plan, low: &[u8; BOUNDS], span: &[u8; BOUNDS], table: &[u8]) -> bool
     requires { ⌜ Bounded plan (now low) (now span) ⌝ }
     ensures { λ r. ⌜ r ≡ isTable plan (now (table .entry)) ⌝ }
 {
+    let to = table.len() / SLOT_SIZE * SLOT_SIZE;
+    if message::map_length(message::byte_at(table, 0)) == 0 {
+        return is_zero(&table[..to]);
+    }
     let used = edge(table);
     if !are_forms(plan, low, span, table, used) {
         return false;
     }
-    let to = table.len() / SLOT_SIZE * SLOT_SIZE;
     is_zero(&table[used * SLOT_SIZE..to])
 }
 
@@ -336,7 +340,8 @@ fn are_tables(
     true
 }
 
-// The plan, N, and the inboxes as so many equal parts: 1, 5 or 6. All share one pair of bounds.
+// The plan, N, and the inboxes as so many equal parts: 1, 5 or 6. All share one pair of bounds. Lengths are the caller's to judge: bytes
+// after the last whole slot or part are not looked at, and of no parts none is.
 pub fn judge(plan: Plan, network: &[u8], parts: usize, inboxes: &[u8]) -> Judged
     ensures { λ r. ⌜ judgedOutcome r ≡ tablesJudged plan (now (network .entry)) parts (now (inboxes .entry)) ⌝ }
 {

@@ -20,7 +20,7 @@ use Rattle.tables.specs.declared.Eight.{Eight}
 unfoldable pub distanceFrom : ℕ → ℕ → ℕ
 distanceFrom low byte = cond (leb low byte) (byte - low) (byte + 256 - low)
 
--- a span up to 255 is no bound
+-- a span of 255 is no bound
 unfoldable pub isWithin : ℕ → ℕ → ℕ → Bool
 isWithin low byte span =
     leb 255 span || cond (leb low byte) (leb 255 (low + span) || leb (byte - low) span) (leb (byte + 256 - low) span)
@@ -46,7 +46,7 @@ lows =
     0x1B (0x1B ∷ 0 ∷ 0 ∷ 0 ∷ 1 ∷ 0 ∷ 0 ∷ 0 ∷ []))
     0x10 (0x10 ∷ 1 ∷ 0 ∷ 0 ∷ 0 ∷ 0 ∷ 0 ∷ 0 ∷ [])
 
--- how far above the lowest: up to an instance and an acceptor of the plan, 2 for a value, 255 for a ballot and after the slot
+-- how far above the lowest: up to the last instance and acceptor of the plan, 1 for a value, 255 for a ballot (254 in a 1a) and after the slot
 unfoldable pub spansOf : Plan → List ℕ
 spansOf p =
     putRow (putRow (putRow (putRow (putRow (putRow (replicate 256 0)
