@@ -1,20 +1,19 @@
 -- The laws of slot tables.
 --     isZero-replicate, isZero-form                   zeros
 --     length-slotsUpTo, getD-slotsUpTo, drop-slotsUpTo, joinSlots-slotsUpTo      slots by place
---     readSlot-unused, -refused, -rubbish, -used      a slot case by case
+--     readSlot-unused, -used                          a slot of zeros, and one with a message
 --     slotAt, slotAt-end, length-readTable            the slot at a place
---     leadingUsed-step, -unused, -bad, -end, -bound, -first           counting the used slots at the start
+--     leadingUsed-bound, -first                       counting the used slots at the start
 -- Assumes nothing.
 use Prim.Native.Nat.{ℕ, zero, suc, _+_, _-_, _*_, _/_, _≤_, _<_, zero-le, suc-le-suc}
 use mathlib.Core.Bool.{Bool, true, false, _&&_, cond, not}
 use mathlib.Core.List.{List, [], _∷_, _++_, map}
 use mathlib.Core.Path.{_≡_, refl, sym, _∙_, ap, ap₂}
-use native.Mathlib.Nat.{add-zero, add-sub-cancel-left, not-suc-le-zero, sub-zero, suc-sub-suc}
-use native.Mathlib.Numerals.{add-one}
+use native.Mathlib.Nat.{add-sub-cancel-left, not-suc-le-zero, sub-zero, suc-sub-suc}
 use native.Mathlib.Omega.{arith}
 use lib.Dec.{eqb, lit≤}
-use lib.ListN.{length, getD, take, drop, replicate, drop-of-length-le, length-map, List·getD-map, List·getD-eq-default}
-use lib.Seq.{drop-cons, drop-drop, take-add, getD-take}
+use lib.ListN.{length, getD, take, drop, replicate, length-map, List·getD-map, List·getD-eq-default}
+use lib.Seq.{drop-drop, take-add, getD-take}
 use borrow.Author.Tests.{eqb-true}
 use Rattle.message.specs.declared.Plan.{Plan}
 use Rattle.message.specs.declared.Message.{Message}
@@ -74,19 +73,10 @@ module _ (p : Plan) (s : List ℕ) where
   unfolding readSlot
   readSlot-unused z = rw z
 
-  module _ (z : isZero s ≡ false) where
-    pub readSlot-refused : (k : ℕ) → readMessage p (take (mapLength (getD s 0 0)) s) ≡ refused k → readSlot p s ≡ Bad
-    unfolding readSlot
-    readSlot-refused k e = rw (z, e)
-
-    module _ (m : Message) (e : readMessage p (take (mapLength (getD s 0 0)) s) ≡ accepted m) where
-      pub readSlot-rubbish : isZero (drop (mapLength (getD s 0 0)) s) ≡ false → readSlot p s ≡ Bad
-      unfolding readSlot
-      readSlot-rubbish r = rw (z, e, r)
-
-      pub readSlot-used : isZero (drop (mapLength (getD s 0 0)) s) ≡ true → readSlot p s ≡ Used m
-      unfolding readSlot
-      readSlot-used r = rw (z, e, r)
+  pub readSlot-used : isZero s ≡ false → (m : Message) → readMessage p (take (mapLength (getD s 0 0)) s) ≡ accepted m
+      → isZero (drop (mapLength (getD s 0 0)) s) ≡ true → readSlot p s ≡ Used m
+  unfolding readSlot
+  readSlot-used z m e r = rw (z, e, r)
 
 pub length-readTable : (p : Plan) (t : List ℕ) → length (readTable p t) ≡ length t / slotSize
 unfolding readTable slots
@@ -108,24 +98,7 @@ module _ {A : Type 0} (read : List ℕ → A) (none : A) (of-none : read [] ≡ 
     length-slotsUpTo (length t / slotSize) t,
   ) h))
 
--- counting the used slots at the start: one more, or no more
-module _ (l : List Slot) (k : ℕ) (h : k < length l) where
-  pub leadingUsed-step : (m : Message) → getD l k Unused ≡ Used m → k + 1 + leadingUsed (drop (k + 1) l) ≡ k + leadingUsed (drop k l)
-  unfolding leadingUsed
-  leadingUsed-step m e = rw (drop-cons l k Unused h, e, add-one k) (omega arith)
-
-  pub leadingUsed-unused : getD l k Unused ≡ Unused → k + leadingUsed (drop k l) ≡ k
-  unfolding leadingUsed
-  leadingUsed-unused e = rw (drop-cons l k Unused h, e) (add-zero k)
-
-  pub leadingUsed-bad : getD l k Unused ≡ Bad → k + leadingUsed (drop k l) ≡ k
-  unfolding leadingUsed
-  leadingUsed-bad e = rw (drop-cons l k Unused h, e) (add-zero k)
-
-pub leadingUsed-end : (l : List Slot) (k : ℕ) → length l ≤ k → k + leadingUsed (drop k l) ≡ k
-unfolding leadingUsed
-leadingUsed-end l k h = rw (drop-of-length-le l h, add-zero)
-
+-- counting the used slots at the start
 pub leadingUsed-bound : (l : List Slot) → leadingUsed l ≤ length l
 unfolding leadingUsed
 leadingUsed-bound [] = zero-le

@@ -1,7 +1,7 @@
 -- On a judged table the view of the bytes is the view of the messages, and so are stores.
 --     PlaceCase, placeCase     the three places: the first where an equal message stands, or the first unused slot, or no room
 --     view-holds, view-judged  the two views agree, where the table holds messages, and where it was judged
---     leading-used, -unused, -bad, -end     the messages from a place on, as a loop meets them
+--     leading-used, -unused, -end     the messages from a place on, as a loop meets them
 --     Sent, send-sent          an accepted send: the first slot where the message stands, and what the table then holds
 --     send-full                a send without room: the message is absent and every slot is used
 --     send-absent, send-absent-full     on any bytes: a message that is absent goes after the leading ones, or has no room
@@ -24,7 +24,7 @@ use Rattle.message.specs.Outcome.{accepted}
 use Rattle.message.specs.Plan.{isPlan}
 use Rattle.message.specs.Form.{slotOf, decode, isInRange}
 use Rattle.message.specs.Form.Laws.{decode-slotOf}
-use Rattle.slots.specs.Table.{Unused, Used, Bad, slotSize, isTableLength, slots, slotsUpTo, isTable, sameBytes}
+use Rattle.slots.specs.Table.{Unused, Used, slotSize, isTableLength, slots, slotsUpTo, isTable, sameBytes}
 use Rattle.slots.specs.declared.Place.{Place}
 use Rattle.slots.specs.declared.Place.the-variants.{At, Free, Full}
 use Rattle.slots.specs.Table.Holds.{Holds, holds-judged}
@@ -112,10 +112,6 @@ module _ (t : List ℕ) (k : ℕ) where
     pub leading-unused : getD (peekTable t) k Unused ≡ Unused → leadingMessages (drop k (peekTable t)) ≡ []
     unfolding leadingMessages
     leading-unused e = rw (peek-cons, e)
-
-    pub leading-bad : getD (peekTable t) k Unused ≡ Bad → leadingMessages (drop k (peekTable t)) ≡ []
-    unfolding leadingMessages
-    leading-bad e = rw (peek-cons, e)
 
   pub leading-end : length t / slotSize ≤ k → leadingMessages (drop k (peekTable t)) ≡ []
   unfolding leadingMessages

@@ -1,7 +1,7 @@
 -- The laws of the steps on a judged table.
---     sameBytes-step, -stop, -end, -length, -refl, -true     comparing byte by byte
---     locateFrom-free, -at, -next, -end                      looking slot by slot
---     storeAt-in, storeAt-out                                the table after a store
+--     sameBytes-length, -refl, -true        comparing byte by byte
+--     locateFrom-free, -at, -next, -end     looking slot by slot
+--     storeAt-in, storeAt-out               the table after a store
 -- Laws/Word.antt has the bytes of a slot as one number. Assumes nothing.
 pub mod Word
 use Prim.Native.Nat.{ℕ, _+_, _*_, _/_, _≤_, _<_}
@@ -16,19 +16,6 @@ use Rattle.slots.specs.declared.Place.the-variants.{At, Free, Full}
 use Rattle.slots.specs.Table.{slotSize, sameBytes, storeAt}
 use Rattle.message.specs.Outcome.Laws.{both}
 use Rattle.slots.specs.Table.Scan.{locateFrom}
-
-module _ (a b : List ℕ) (i : ℕ) where
-  pub sameBytes-step : i < length a → i < length b → getD a i 0 ≡ getD b i 0 → sameBytes (drop (i + 1) a) (drop (i + 1) b) ≡ sameBytes (drop i a) (drop i b)
-  unfolding sameBytes
-  sameBytes-step h k e = rw (drop-cons a i 0 h, drop-cons b i 0 k, eq-eqb _ _ e, add-one)
-
-  pub sameBytes-stop : i < length a → i < length b → (getD a i 0 ≡ getD b i 0 → ⊥) → sameBytes (drop i a) (drop i b) ≡ false
-  unfolding sameBytes
-  sameBytes-stop h k e = rw (drop-cons a i 0 h, drop-cons b i 0 k, ne-eqb _ _ e)
-
-  pub sameBytes-end : length a ≤ i → length b ≤ i → sameBytes (drop i a) (drop i b) ≡ true
-  unfolding sameBytes
-  sameBytes-end h k = rw (drop-of-length-le a h, drop-of-length-le b k)
 
 pub sameBytes-true : (a b : List ℕ) → sameBytes a b ≡ true → a ≡ b
 unfolding sameBytes
