@@ -28,10 +28,12 @@ judge-spec =
       spans = c .before .before .before .before .before .before .spans .ensures;
     })
     (λ c.
-    pass _ _ _ (told (c .before .before .before .before .before .before .before .before .before .before .before .is-plan .ensures) (c .before .before .before .before .before .before .before .before .before .before .if1 .left))
+    pass _ _ _ (told (c .before .before .before .before .before .before .before .before .before .before .before .is-plan .ensures)
+    (c .before .before .before .before .before .before .before .before .before .before .if1 .left))
     (pass _ _ _ (told (c .before .before .before .before .before .is-table-within .ensures) (c .before .before .before .before .if2 .left))
     (halt _ _ _ (told (c .before .are-tables .ensures) (c .if3 .taken)))))
     (λ c.
-    pass _ _ _ (told (c .before .before .before .before .before .before .before .before .before .before .before .is-plan .ensures) (c .before .before .before .before .before .before .before .before .before .before .if1 .left))
+    pass _ _ _ (told (c .before .before .before .before .before .before .before .before .before .before .before .is-plan .ensures)
+    (c .before .before .before .before .before .before .before .before .before .before .if1 .left))
     (pass _ _ _ (told (c .before .before .before .before .before .is-table-within .ensures) (c .before .before .before .before .if2 .left))
     (pass _ _ _ (told (c .before .are-tables .ensures) (c .if3 .left)) refl))))
