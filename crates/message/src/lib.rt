@@ -32,25 +32,10 @@ pub struct Plan {
 pub fn is_plan(plan: Plan) -> bool
     ensures { λ r. ⌜ r ≡ isPlan plan ⌝ }
 {
-    if plan.rms < 1 {
-        return false;
-    }
-    if 16 < plan.rms {
-        return false;
-    }
-    if plan.acceptors < 1 {
-        return false;
-    }
-    if 7 < plan.acceptors {
-        return false;
-    }
-    if plan.leaders < 1 {
-        return false;
-    }
-    if 4 < plan.leaders {
-        return false;
-    }
-    true
+    let rms = (1 <= plan.rms) & (plan.rms <= 16);
+    let acceptors = (1 <= plan.acceptors) & (plan.acceptors <= 7);
+    let leaders = (1 <= plan.leaders) & (plan.leaders <= 4);
+    rms & acceptors & leaders
 }
 
 // What a 1b says of the acceptor's last vote: none, or its ballot and value (document 01: the vote report).
@@ -141,13 +126,7 @@ pub fn map_length(map: u8) -> usize
 pub fn is_value(val: u8) -> bool
     ensures { λ r. ⌜ r ≡ isValue val ⌝ }
 {
-    if val < 1 {
-        return false;
-    }
-    if 2 < val {
-        return false;
-    }
-    true
+    (1 <= val) & (val <= 2)
 }
 
 fn is_vote(vote: Vote) -> bool
@@ -164,49 +143,20 @@ pub fn in_range(plan: Plan, m: Message) -> bool
     ensures { λ r. ⌜ r ≡ isInRange plan m ⌝ }
 {
     match m {
-        Message::Phase1a { ins, bal } => {
-            if plan.rms <= ins {
-                return false;
-            }
-            if bal < 1 {
-                return false;
-            }
-            true
-        }
+        Message::Phase1a { ins, bal } => (ins < plan.rms) & (1 <= bal),
         Message::Phase1b {
             ins,
             acc,
             mbal: _,
             vote,
-        } => {
-            if plan.rms <= ins {
-                return false;
-            }
-            if plan.acceptors <= acc {
-                return false;
-            }
-            is_vote(vote)
-        }
-        Message::Phase2a { ins, bal: _, val } => {
-            if plan.rms <= ins {
-                return false;
-            }
-            is_value(val)
-        }
+        } => (ins < plan.rms) & (acc < plan.acceptors) & is_vote(vote),
+        Message::Phase2a { ins, bal: _, val } => (ins < plan.rms) & is_value(val),
         Message::Phase2b {
             ins,
             acc,
             bal: _,
             val,
-        } => {
-            if plan.rms <= ins {
-                return false;
-            }
-            if plan.acceptors <= acc {
-                return false;
-            }
-            is_value(val)
-        }
+        } => (ins < plan.rms) & (acc < plan.acceptors) & is_value(val),
         Message::Decision { val } => is_value(val),
     }
 }

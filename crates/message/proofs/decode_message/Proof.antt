@@ -1,4 +1,5 @@
 -- `message::decode_message` meets its contract: the six bytes are those that `decode` reads. Assumes nothing.
+use mathlib.Core.Path.{_∙_}
 use Rattle.message.specs.Form.{decode}
 use Rattle.message.proofs.decode_message.Statement.{statement}
 use Rattle.message.proofs.decode_message.Tie as tie
@@ -15,4 +16,12 @@ decode-message-spec =
     (λ c κs. tt)
     (λ c κs. tt)
     (λ c κs. tt)
-    (λ c. cc))
+    (λ c. c .fields-message .ensures
+    ∙ rw (
+      c .before .byte-at6 .ensures,
+      c .before .before .byte-at5 .ensures,
+      c .before .before .before .byte-at4 .ensures,
+      c .before .before .before .before .byte-at3 .ensures,
+      c .before .before .before .before .before .byte-at2 .ensures,
+      c .before .before .before .before .before .before .byte-at .ensures,
+    )))
