@@ -148,7 +148,7 @@ pub fn evaluate(plan: Plan, votes: &[u8], network: &[u8], event: &[u8]) -> Verdi
     }
     let answer = slots::message_at(plan, network, event::slot_number(event));
     let Read::Message(m) = answer else {
-        return Verdict::Refused(message::read_refusal(answer));
+        return Verdict::Refused(codec::read_refusal(answer));
     };
     receive(plan, votes, network, message::byte_at(event, 1), m)
 }

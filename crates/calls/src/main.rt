@@ -129,9 +129,9 @@ fn say_message(m: Message) {
 
 // What the reader answers: the message, or the refusal.
 fn say_read(plan: Plan, bytes: &[u8]) {
-    let answer = message::read_message(plan, bytes);
+    let answer = codec::read_message(plan, bytes);
     let Read::Message(m) = answer else {
-        say_number(message::read_refusal(answer) as u64);
+        say_number(codec::read_refusal(answer) as u64);
         return;
     };
     say_message(m);
@@ -167,7 +167,7 @@ fn raw_message(b: &[u8]) -> Message {
 
 // What the writer answers: number, six bytes, length.
 fn say_write(plan: Plan, m: Message) {
-    let written = message::write_message(plan, m);
+    let written = codec::write_message(plan, m);
     let bytes = written.bytes;
     say_number(written.number as u64);
     say(b" ");

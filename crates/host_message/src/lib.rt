@@ -55,7 +55,7 @@ pub extern "C" fn paxos_commit_read(rms: u8, acceptors: u8, leaders: u8, bytes: 
         acceptors,
         leaders,
     };
-    let number = message::message_refusal(plan, bytes);
+    let number = codec::message_refusal(plan, bytes);
     if number != 0 {
         return number as u64;
     }
@@ -142,7 +142,7 @@ pub extern "C" fn paxos_commit_write(
     }
     let answer = message_of(map, ins, acc, mbal, bal, val);
     let Read::Message(m) = answer else {
-        return message::read_refusal(answer) as u64;
+        return codec::read_refusal(answer) as u64;
     };
-    written_code(message::write_message(plan, m))
+    written_code(codec::write_message(plan, m))
 }

@@ -223,7 +223,7 @@ fn phase2a_of(
     let answer = proposal.answer;
     let place = proposal.place;
     let Read::Message(m) = answer else {
-        return Verdict::Refused(message::read_refusal(answer));
+        return Verdict::Refused(codec::read_refusal(answer));
     };
     send_both(plan, inbox, network, m, place)
 }
@@ -234,7 +234,7 @@ fn receive(plan: Plan, inbox: &[u8], network: &[u8], slot: usize) -> Verdict
 {
     let answer = slots::message_at(plan, network, slot);
     let Read::Message(m) = answer else {
-        return Verdict::Refused(message::read_refusal(answer));
+        return Verdict::Refused(codec::read_refusal(answer));
     };
     receipt_of(plan, inbox, m)
 }

@@ -4,22 +4,15 @@
 //     Message, Vote                  the messages of the protocol; the vote report of a 1b
 //     SLOT_SIZE, map_length          the bytes of a slot; the length that a bit map stands for
 //     is_value, in_range             the ranges of the fields, and refusal 17
-//     byte_at, decode_message        a byte or 0 past the end; the message that the bytes of a known map make
-//     message_refusal                the number that a slice is refused with, 0 where it is one message (refusal.rt)
-//     Read, read_message, read_refusal   the reader
-//     encode, Written, write_message the byte form by itself, and the writer
+//     Read, Written                  the answers of the reader and of the writer, which are the crate `codec`
+//     byte_at                        a byte, or 0 past the end
+//     encode                         the byte form by itself
 //
-// What each of them means stands in specs/.
+// What each of them means stands in specs/, where the reader and the writer are defined too.
 ghost use mathlib.Core.Path.{_≡_};
 ghost use lib.ListN.{getD};
-ghost use Rattle.message.specs.Outcome.{numberOf};
 ghost use Rattle.message.specs.Plan.{isPlan};
-ghost use Rattle.message.specs.Form.{isValue, isVote, isInRange, slotOf, mapLength, fieldsMessage, decode};
-ghost use Rattle.message.specs.Codec.{readOutcome, readMessage, writeMessage};
-
-mod refusal;
-
-pub use refusal::message_refusal;
+ghost use Rattle.message.specs.Form.{isValue, isVote, isInRange, slotOf, mapLength};
 
 // The plan of an order: how many resource managers (document 01: weights), acceptors and leaders it has.
 pub struct Plan {
@@ -174,82 +167,6 @@ pub fn byte_at(bytes: &[u8], at: usize) -> u8
     if at < bytes.len() { bytes[at] } else { 0 }
 }
 
-// The message that a known map and the five bytes after it make.
-fn fields_message(map: u8, b1: u8, b2: u8, b3: u8, b4: u8, b5: u8) -> Message
-    ensures { λ r. ⌜ r ≡ fieldsMessage map b1 b2 b3 b4 b5 ⌝ }
-{
-    if map == 0x09 {
-        return Message::Phase1a { ins: b1, bal: b2 };
-    }
-    if map == 0x07 {
-        return Message::Phase1b {
-            ins: b1,
-            acc: b2,
-            mbal: b3,
-            vote: Vote::None,
-        };
-    }
-    if map == 0x1F {
-        return Message::Phase1b {
-            ins: b1,
-            acc: b2,
-            mbal: b3,
-            vote: Vote::Cast { bal: b4, val: b5 },
-        };
-    }
-    if map == 0x19 {
-        return Message::Phase2a {
-            ins: b1,
-            bal: b2,
-            val: b3,
-        };
-    }
-    if map == 0x1B {
-        return Message::Phase2b {
-            ins: b1,
-            acc: b2,
-            bal: b3,
-            val: b4,
-        };
-    }
-    Message::Decision { val: b1 }
-}
-
-// The message that the bytes make where their map is known. It judges nothing.
-pub fn decode_message(bytes: &[u8]) -> Message
-    ensures { λ r. ⌜ r ≡ decode (now (bytes .entry)) ⌝ }
-{
-    fields_message(
-        byte_at(bytes, 0),
-        byte_at(bytes, 1),
-        byte_at(bytes, 2),
-        byte_at(bytes, 3),
-        byte_at(bytes, 4),
-        byte_at(bytes, 5),
-    )
-}
-
-// The reader. The slice is exactly one message: that message, or its refusal.
-pub fn read_message(plan: Plan, bytes: &[u8]) -> Read
-    ensures { λ r. ⌜ readOutcome r ≡ readMessage plan (now (bytes .entry)) ⌝ }
-{
-    let number = message_refusal(plan, bytes);
-    if number != 0 {
-        return Read::Refused(number);
-    }
-    Read::Message(decode_message(bytes))
-}
-
-// The refusal's number in a reader's answer, 0 where it is a message.
-pub fn read_refusal(answer: Read) -> u8
-    ensures { λ r. ⌜ r ≡ numberOf (readOutcome answer) ⌝ }
-{
-    match answer {
-        Read::Message(_) => 0,
-        Read::Refused(number) => number,
-    }
-}
-
 fn encode_1b(plan: Plan, ins: u8, acc: u8, mbal: u8, vote: Vote) -> [u8; SLOT_SIZE]
     ensures { λ r. ⌜ r ≡ slotOf plan (Message.Phase1b ins acc mbal vote) ⌝ }
 {
@@ -282,30 +199,4 @@ pub struct Written {
     pub number: u8,
     pub bytes: [u8; SLOT_SIZE],
     pub len: usize,
-}
-
-// The writer: the byte form of a message, or 1 or 17 (a field out of range).
-pub fn write_message(plan: Plan, m: Message) -> Written
-    ensures { λ r. ⌜ r ≡ writeMessage plan m ⌝ }
-{
-    if !is_plan(plan) {
-        return Written {
-            number: 1,
-            bytes: [0; SLOT_SIZE],
-            len: 0,
-        };
-    }
-    if !in_range(plan, m) {
-        return Written {
-            number: 17,
-            bytes: [0; SLOT_SIZE],
-            len: 0,
-        };
-    }
-    let bytes = encode(plan, m);
-    Written {
-        number: 0,
-        bytes,
-        len: map_length(bytes[0]),
-    }
 }

@@ -119,7 +119,7 @@ fn evaluate_kind(plan: Plan, network: &[u8], kind: u8, who: u8, state: u8, slot:
     }
     let answer = slots::message_at(plan, network, slot);
     let Read::Message(m) = answer else {
-        return Verdict::Refused(message::read_refusal(answer));
+        return Verdict::Refused(codec::read_refusal(answer));
     };
     receive(who, state, m)
 }

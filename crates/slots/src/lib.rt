@@ -50,7 +50,7 @@ fn read_used(plan: Plan, slot: &[u8]) -> Read
         return Read::Refused(8);
     }
     let len = message::map_length(map);
-    message::read_message(plan, &slot[..len])
+    codec::read_message(plan, &slot[..len])
 }
 
 // The message in the slot at a place, by the reader: 8 where the slot is unused or beyond the table; in a table that nobody judged also what

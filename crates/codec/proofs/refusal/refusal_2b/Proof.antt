@@ -1,0 +1,32 @@
+-- `codec::refusal::refusal_2b` meets its contract: the length is the table's entry, and each branch decides one field. Assumes nothing.
+use mathlib.Core.Path.{_∙_, sym, ap}
+use lib.Dec.{lit<}
+use Rattle.message.specs.Form.{isInRange, mapLength, mapLengths}
+use Rattle.message.specs.Codec.Laws.{formNumber-length, formNumber-range, formNumber-none}
+use Rattle.message.proofs.Guards.{guards, passed, failed, within}
+use Rattle.codec.proofs.refusal.refusal_2b.Statement.{statement}
+use Rattle.codec.proofs.refusal.refusal_2b.Tie as tie
+
+pub refusal-2b-spec : {M : Type 1} → statement M
+unfolding isInRange mapLength mapLengths
+refusal-2b-spec =
+    tie.close
+    (tie.spec
+    (λ c κs. tt)
+    (λ c. formNumber-length _ _ _ _ (λ n. c .if1 .taken (n ∙ sym (c .before .map-length .ensures))))
+    (λ c. within (c .before .if1 .left ∙ c .before .before .map-length .ensures ∙ ap mapLength (c .before .before .before .before .pre)) (lit< tt))
+    (λ c. formNumber-range _ _ _ _ (c .before .before .before .if1 .left ∙ c .before .before .before .before .map-length .ensures) (search guards))
+    (λ c. within (c .before .before .before .before .if1 .left ∙ c .before .before .before .before .before .map-length .ensures ∙ ap mapLength
+    (c .before .before .before .before .before .before .before .pre)) (lit< tt))
+    (λ c. formNumber-range _ _ _ _ (c .before .before .before .before .before .before .if1 .left
+    ∙ c .before .before .before .before .before .before .before .map-length .ensures) (search guards))
+    (λ c. within (c .before .before .before .before .before .before .before .if1 .left
+    ∙ c .before .before .before .before .before .before .before .before .map-length .ensures ∙ ap mapLength
+    (c .before .before .before .before .before .before .before .before .before .before .pre)) (lit< tt))
+    (λ c κs. tt)
+    (λ c. formNumber-range _ _ _ _ (c .before .before .before .before .before .before .before .before .before .if1 .left
+    ∙ c .before .before .before .before .before .before .before .before .before .before .map-length .ensures) (sym (failed (c .before .is-value .ensures)
+    (c .if4 .taken)) ∙ search guards))
+    (λ c. formNumber-none _ _ _ _ (c .before .before .before .before .before .before .before .before .before .if1 .left
+    ∙ c .before .before .before .before .before .before .before .before .before .before .map-length .ensures) (sym (passed (c .before .is-value .ensures)
+    (c .if4 .left)) ∙ search guards)))
