@@ -22,13 +22,7 @@ fn who_limit(plan: Plan, kind: u8) -> u8
 fn are_zero(high: u8, low: u8) -> bool
     ensures { λ r. ⌜ r ≡ areZero high low ⌝ }
 {
-    if high != 0 {
-        return false;
-    }
-    if low != 0 {
-        return false;
-    }
-    true
+    (high == 0) & (low == 0)
 }
 
 // Whether high and low are in range for the kind: both 0 for 0, 1, 7 and 8; an instance in high for 5 and 6.
@@ -44,10 +38,7 @@ fn are_arguments(plan: Plan, kind: u8, high: u8, low: u8) -> bool
     if 6 < kind {
         return are_zero(high, low);
     }
-    if plan.rms <= high {
-        return false;
-    }
-    true
+    high < plan.rms
 }
 
 // Whether the bytes are an event of the plan; where they are not, every role refuses 7.

@@ -15,5 +15,4 @@ are-arguments-spec =
     (λ c. search guards)
     (λ c κs. tt)
     (λ c. c .are-zero2 .ensures ∙ search guards)
-    (λ c. search guards)
     (λ c. search guards))

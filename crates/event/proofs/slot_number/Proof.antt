@@ -15,4 +15,4 @@ slot-number-spec =
     (λ c. search needs)
     (λ c. search needs)
     (λ c. search needs)
-    (λ c. cc))
+    (λ c. rw (c .before .byte-at .ensures, c .byte-at2 .ensures)))
