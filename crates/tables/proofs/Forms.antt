@@ -1,6 +1,6 @@
 -- The bounds of a slot's bytes say what the reader says: a slot is a form exactly when it is used.
 --     over-more, over-none, distance-above, -below, within-in     what the code tests of a byte
---     plan-used                             no slot is used under a plan out of range
+--     plan-used, first-zero                 no slot is used under a plan out of range, and none in a table that begins with 0
 --     form-step, last-step                  the slot at a place, with the two bytes after it
 --     none-seen, four-lanes, slot-lanes     four tests, and eight, each beside what was seen before
 -- Assumes nothing.
@@ -13,7 +13,7 @@ use native.Mathlib.Nat.{not-suc-le-zero}
 use native.Mathlib.Omega.{arith}
 use lib.Dec.{leb, ltb, eqb, leb·zero}
 use lib.ListN.{length, getD, take, List·getD-map}
-use borrow.Author.Tests.{eq-eqb, ne-eqb, le-leb, lt-leb, lt-ltb, le-ltb, eqb-true}
+use borrow.Author.Tests.{eq-eqb, ne-eqb, le-leb, lt-leb, lt-ltb, le-ltb, eqb-true, eqb-false, leb-true, not-true}
 use Rattle.message.specs.declared.Plan.{Plan}
 use Rattle.message.specs.declared.Message.{Message}
 use Rattle.message.specs.Outcome.{accepted, refused, refuseIf}
@@ -26,11 +26,11 @@ use Rattle.message.specs.Codec.{readMessage}
 use Rattle.message.specs.Codec.Laws.{readMessage-plan, readMessage-empty}
 use Rattle.tables.specs.declared.Four.{Four}
 use Rattle.tables.specs.declared.Eight.{Eight}
-use Rattle.slots.specs.Table.{Unused, Bad, slotSize, slots, isZero, usedSlot, readSlot, readTable}
+use Rattle.slots.specs.Table.{Unused, Bad, slotSize, slots, isZero, usedSlot, readSlot, readTable, isTable}
 use Rattle.slots.specs.All.{all}
 use Rattle.slots.specs.Table.Scan.{leadingUsed}
-use Rattle.slots.specs.Table.Laws.{readSlot-unused}
-use Rattle.tables.specs.Tables.Bounds.{distanceFrom, isWithin, putBound, putRow, lows, spansOf, Bounded, fourWithin, isForm, isClear, areClear, eightAt}
+use Rattle.slots.specs.Table.Laws.{readSlot-unused, isTable-first}
+use Rattle.tables.specs.Tables.Bounds.{distanceFrom, isWithin, putRow, putBounds, boundsOf, Bounded, bound, fourWithin, isForm, isClear, areClear, eightAt}
 use Rattle.tables.specs.Tables.Each.{interchange}
 use Rattle.tables.specs.Tables.Edge.{isUsed, usedAt}
 use Rattle.slots.proofs.Six.{slot-six}
@@ -143,18 +143,6 @@ below-at f (suc n) k e h = go (ℕ-discrete k n) (λ l. below-at f n k (both (be
     go (yes x) rest = rw x (both (below n f) (f n) e .1)
     go (no x) rest = rest (omega arith)
 
--- the lowest map byte of a row: the map, where it is known, else 3F
-rowMap : ℕ → Bool
-rowMap row = cond (eqb (mapLength row) 0) (eqb (getD lows (row * 8) 0) 0x3F) (eqb (getD lows (row * 8) 0) row)
-
-rows-map : below 32 rowMap ≡ true
-unfolding below rowMap lows putRow putBound mapLength mapLengths
-rows-map = refl
-
-other-known : mapLength (0x3F % 32) ≡ 0 → ⊥
-unfolding mapLength mapLengths
-other-known x = not-suc-le-zero {n = 0} (omega (arith, x))
-
 module _ (p : Plan) where
   plan-none : isPlan p ≡ false → (ss : List (List ℕ)) → leadingUsed (map (readSlot p) ss) ≡ 0
   unfolding leadingUsed readSlot
@@ -169,25 +157,44 @@ module _ (p : Plan) where
   unfolding readTable
   plan-used e t = sym (plan-none e (slots t))
 
-  -- of a row only the map itself lies within the bounds of the first place
-  rows-span : below 32 (λ row. eqb (getD (spansOf p) (row * 8) 0) 0) ≡ true
-  unfolding below spansOf putRow putBound
-  rows-span = refl
+  -- a table that begins with 0 is zeros
+  pub first-zero : (t : List ℕ) → getD t 0 0 ≡ 0 → isTable p t ≡ isZero (take (length t / slotSize * slotSize) t)
+  unfolding mapLength mapLengths
+  first-zero t e = isTable-first p t (ap mapLength e)
 
-  unknown-map : (m : ℕ) → mapLength m ≡ 0 → isWithin (getD lows (m % 32 * 8) 0) m (getD (spansOf p) (m % 32 * 8) 0) ≡ false
+  -- the lowest map byte of a row: the map, where it is known, else a byte of another row; nothing above it
+  rowMap : ℕ → Bool
+  rowMap row =
+      eqb (bound (boundsOf p) (64 + row) 0) 0 && leb (bound (boundsOf p) row 0) 63
+      && cond (eqb (mapLength row) 0) (not (eqb (bound (boundsOf p) row 0) row)) (eqb (bound (boundsOf p) row 0) row)
+
+  rows-map : below 64 rowMap ≡ true
+  unfolding below rowMap bound boundsOf putBounds putRow mapLength mapLengths
+  rows-map = refl
+
+  row-at : (m : ℕ) → rowMap (m % 64) ≡ true
+  row-at m = below-at rowMap 64 (m % 64) rows-map (omega arith)
+
+  unknown-map : (m : ℕ) → mapLength m ≡ 0 → isWithin (bound (boundsOf p) (m % 64) 0) m (bound (boundsOf p) (64 + m % 64) 0) ≡ false
   unfolding rowMap
-  unknown-map m u =
-      rw (eqb-true (getD (spansOf p) (m % 32 * 8) 0) 0
-      (below-at (λ row. eqb (getD (spansOf p) (row * 8) 0) 0) 32 (m % 32) rows-span (omega arith)))
-      (go (ℕ-discrete (mapLength (m % 32)) 0) (below-at rowMap 32 (m % 32) rows-map (omega arith)))
+  unknown-map m u = go (bound (boundsOf p) (m % 64) 0) (bound (boundsOf p) (64 + m % 64) 0) (row-at m)
     where
-      go : Dec (mapLength (m % 32) ≡ 0) → rowMap (m % 32) ≡ true → isWithin (getD lows (m % 32 * 8) 0) m 0 ≡ false
-      go (yes z) e =
-          rw (eqb-true (getD lows (m % 32 * 8) 0) 0x3F (rw (eq-eqb (mapLength (m % 32)) 0 z) at e))
-          (within-other 0x3F m (omega arith) (λ x. other-known (rw (← x) at z)))
-      go (no z) e =
-          rw (eqb-true (getD lows (m % 32 * 8) 0) (m % 32) (rw (ne-eqb (mapLength (m % 32)) 0 z) at e))
-          (within-other (m % 32) m (omega arith) (λ x. z (ap mapLength x ∙ u)))
+      other : (low : ℕ) → Dec (mapLength (m % 64) ≡ 0) → low ≤ 63
+          → cond (eqb (mapLength (m % 64)) 0) (not (eqb low (m % 64))) (eqb low (m % 64)) ≡ true → isWithin low m 0 ≡ false
+      other low (yes z) l e =
+          within-other low m (omega arith)
+          (λ x. eqb-false low (m % 64) (not-true (eqb low (m % 64)) (rw (eq-eqb (mapLength (m % 64)) 0 z) at e)) (omega (arith, x, l)))
+      other low (no z) l e =
+          within-other low m (omega arith)
+          (λ x. z (ap mapLength (sym (eqb-true low (m % 64) (rw (ne-eqb (mapLength (m % 64)) 0 z) at e)) ∙ x) ∙ u))
+
+      go : (low span : ℕ)
+          → (eqb span 0 && leb low 63 && cond (eqb (mapLength (m % 64)) 0) (not (eqb low (m % 64))) (eqb low (m % 64))) ≡ true
+          → isWithin low m span ≡ false
+      go low span e =
+          let most : (eqb span 0 && leb low 63) ≡ true = both (eqb span 0 && leb low 63) _ e .0 in
+          rw (eqb-true span 0 (both (eqb span 0) (leb low 63) most .0))
+          (other low (ℕ-discrete (mapLength (m % 64)) 0) (leb-true low 63 (both (eqb span 0) (leb low 63) most .1)) (both (eqb span 0 && leb low 63) _ e .1))
 
   module _ (e : isPlan p ≡ true) (b1 b2 b3 b4 b5 b6 b7 : ℕ) where
     ins : isWithin 0 b1 (p .rms - 1) ≡ ltb b1 (p .rms)
@@ -198,11 +205,11 @@ module _ (p : Plan) where
 
     Judged : ℕ → Type 0
     Judged map =
-        isForm lows (spansOf p) (map ∷ b1 ∷ b2 ∷ b3 ∷ b4 ∷ b5 ∷ b6 ∷ b7 ∷ []) 0
+        isForm (boundsOf p) (map ∷ b1 ∷ b2 ∷ b3 ∷ b4 ∷ b5 ∷ b6 ∷ b7 ∷ []) 0
         ≡ isUsed (readSlot p (map ∷ b1 ∷ b2 ∷ b3 ∷ b4 ∷ b5 ∷ []))
 
     judged-known : (map : ℕ) → (mapLength map ≡ 0 → ⊥) → Judged map
-    unfolding Judged isForm fourWithin lows spansOf putRow putBound mapLength mapLengths
+    unfolding Judged isForm fourWithin bound boundsOf putBounds putRow mapLength mapLengths
         readSlot readMessage refuseIf decode fieldsMessage isZero all isInRange isVote
     judged-known =
         knownMap Judged
@@ -224,30 +231,30 @@ module _ (p : Plan) where
     judged map = elim (ℕ-discrete (mapLength map) 0) [ yes u ↦ judged-none map u | no k ↦ judged-known map k ]
 
 -- the same of a copy of them
-eight-form : (low span t : List ℕ) (at : ℕ) → isForm low span t at ≡ isForm low span (eightAt t at) 0
+eight-form : (b : List (List ℕ)) (t : List ℕ) (at : ℕ) → isForm b t at ≡ isForm b (eightAt t at) 0
 unfolding isForm fourWithin eightAt
-eight-form low span t at = rw (at-next 1, at-next 2, at-next 3) refl
+eight-form b t at = rw (at-next 1, at-next 2, at-next 3) refl
   where
     at-next : (j : ℕ) → at + 4 + j ≡ at + (4 + j)
     at-next j = omega arith
 
 -- the slot at a place, with the two bytes after it
-module _ {p : Plan} {low span : List ℕ} (b : Bounded p low span) (t : List ℕ) (k : ℕ) (h : k < length t / slotSize) where
-  form-at : isForm low span t (k * slotSize) ≡ usedAt p t k
+module _ {p : Plan} {bounds : List (List ℕ)} (b : Bounded p bounds) (t : List ℕ) (k : ℕ) (h : k < length t / slotSize) where
+  form-at : isForm bounds t (k * slotSize) ≡ usedAt p t k
   unfolding usedAt readTable eightAt Judged isZero all
   form-at =
-      rw (b .lowest, b .spans)
-      (eight-form lows (spansOf p) t (k * slotSize)
+      rw (b .rows)
+      (eight-form (boundsOf p) t (k * slotSize)
       ∙ judged p (b .plan) _ _ _ _ _ _ _ (getD t (k * slotSize) 0)
       ∙ ap (λ (s : List ℕ). isUsed (readSlot p s)) (sym (slot-six t k h))
       ∙ ap isUsed (sym (rw (readSlot-unused p [] refl) at (List·getD-map (readSlot p) (slots t) k []))))
 
-  pub form-step : (at : ℕ) (c r : Bool) → r ≡ (c && isForm low span t at) → at ≡ k * slotSize → r ≡ (c && usedAt p t k)
+  pub form-step : (at : ℕ) (c r : Bool) → r ≡ (c && isForm bounds t at) → at ≡ k * slotSize → r ≡ (c && usedAt p t k)
   form-step at c r x e = x ∙ ap (λ (y : Bool). c && y) (rw e form-at)
 
   -- the same of a copy
-  pub last-step : (s : List ℕ) (c r : Bool) → r ≡ (c && isForm low span s 0) → s ≡ eightAt t (k * slotSize) → r ≡ (c && usedAt p t k)
-  last-step s c r x e = form-step (k * slotSize) c r (rw e at x ∙ ap (λ (y : Bool). c && y) (sym (eight-form low span t (k * slotSize)))) refl
+  pub last-step : (s : List ℕ) (c r : Bool) → r ≡ (c && isForm bounds s 0) → s ≡ eightAt t (k * slotSize) → r ≡ (c && usedAt p t k)
+  last-step s c r x e = form-step (k * slotSize) c r (rw e at x ∙ ap (λ (y : Bool). c && y) (sym (eight-form bounds t (k * slotSize)))) refl
 
 -- before the first slot
 abbrev none : Four

@@ -1,111 +1,109 @@
 // Judging tables: N, or N and so many inboxes. Every slot is unused or a readable message with zeros after it, and used slots come first.
 //
-//     is_zero                whether a part is zeros alone, in one pass without a branch
-//     low_bounds, spans      for each map the lowest byte at each place of a slot, and how far above it a byte may lie
+//     zeros::is_zero         whether a part is zeros alone, in one pass without a branch (zeros.rt)
+//     put_row, put_bounds    for each map the lowest byte at each place of a slot, and how far above it a byte may lie
 //     add_four, add_slot     a slot's bytes beside the bounds of its map, eight at a time
 //     edge, are_forms        where the used slots end, and whether each of them holds a message
 //     is_table_within, are_tables     a table, and so many equal parts, by bounds that were made
 //     is_table               row 5 of "Refusals by place" for N alone
 //     judge                  rows 5 and 6 for N and the inboxes, and row 1 before them
 //
-// The reader judges a single message. Tables are judged by bounds instead, which are made once for all slots of all tables. What they
-// answer is proved to be what the reader says of the slot. Four parts of a table are looked through side by side, so that a step of the
-// loop has work for the whole processor. No public function has a `requires`, and none looks past its tables.
+// The reader judges a single message. Tables are judged by bounds instead, made once for all slots of all tables; what they answer is proved
+// to be what the reader says. Four parts of a table are looked through side by side, so that a step of the loop has work for the whole
+// processor. No public function has a `requires`, and none looks past its tables.
 ghost use mathlib.Core.Bool.{true, _&&_};
 ghost use mathlib.Core.Path.{_≡_};
 ghost use Prim.Native.Nat.{_+_, _*_, _/_, _≤_, _<_};
 ghost use lib.Dec.{leb, eqb};
 ghost use lib.ListN.{length};
 ghost use Rattle.message.specs.Plan.{isPlan};
-ghost use Rattle.slots.specs.Table.{slotSize, isZero, isTable};
+ghost use Rattle.slots.specs.Table.{slotSize, isTable};
 ghost use Rattle.change.specs.Change.{judgedOutcome};
 ghost use Rattle.tables.specs.Tables.{areTables, tablesJudged};
-ghost use Rattle.tables.specs.Tables.Bounds.{distanceFrom, isWithin, putRow, lows, spansOf, Bounded, fourWithin, isForm, isClear, areClear, eightAt};
+ghost use Rattle.tables.specs.Tables.Bounds.{distanceFrom, isWithin, putRow, putBounds, Bounded, fourWithin, isForm, isClear, areClear, eightAt};
 ghost use Rattle.tables.specs.Tables.Edge.{Reached, Edge, areUsed};
+
+mod zeros;
+
 use change::Judged;
 use message::Plan;
 use message::SLOT_SIZE;
+use zeros::either;
+use zeros::is_zero;
 
-fn either(a: u8, b: u8) -> u8
-    ensures { λ r. ⌜ eqb r 0 ≡ (eqb a 0 && eqb b 0) ⌝ }
-{
-    a | b
-}
-
-// Whether a part is zeros alone. It looks at every byte, several at a time.
-fn is_zero(bytes: &[u8]) -> bool
-    ensures { λ r. ⌜ r ≡ isZero (now (bytes .entry)) ⌝ }
-{
-    let quarter = bytes.len() / 4;
-    let mut any = 0;
-    let mut i = 0;
-    while i < quarter {
-        any = either(any, bytes[i]);
-        any = either(any, bytes[quarter + i]);
-        any = either(any, bytes[2 * quarter + i]);
-        any = either(any, bytes[3 * quarter + i]);
-        i += 1;
-    }
-    let mut rest = 4 * quarter;
-    while rest < bytes.len() {
-        any = either(any, bytes[rest]);
-        rest += 1;
-    }
-    any == 0
-}
-
-// A row of bounds for each of 32 maps. It is longer than a slot by the two bytes after it, which have no bounds, so that eight bytes are
-// looked at together.
+// A row of bounds is longer than a slot by the two bytes after it, which have no bounds, so that eight bytes are looked at together.
 const ROW_SIZE: usize = 8;
 
-const BOUNDS: usize = 256;
+// The lowest bytes are in so many rows, how far above them a byte may lie in as many after them. With 64 rows in one array, where 32 would
+// do, a slot costs a machine step less.
+const ROWS: usize = 64;
 
-fn put_row(bounds: &mut [u8; BOUNDS], map: usize, row: [u8; ROW_SIZE])
-    requires { ⌜ map < 32 ⌝ }
-    ensures { λ _. ⌜ now (bounds .exit) ≡ putRow (now (bounds .entry)) map row ⌝ }
+const BOUNDS: usize = 128;
+
+// The rows of a map, where the constant table knows it.
+fn put_row(
+    bounds: &mut [[u8; ROW_SIZE]; BOUNDS],
+    map: u8,
+    low: [u8; ROW_SIZE],
+    span: [u8; ROW_SIZE],
+)
+    requires { ⌜ map < 64 ⌝ }
+    ensures { λ _. ⌜ now (bounds .exit) ≡ putRow (now (bounds .entry)) map low span ⌝ }
 {
-    let at = map * ROW_SIZE;
-    bounds[at] = row[0];
-    bounds[at + 1] = row[1];
-    bounds[at + 2] = row[2];
-    bounds[at + 3] = row[3];
-    bounds[at + 4] = row[4];
-    bounds[at + 5] = row[5];
-    bounds[at + 6] = row[6];
-    bounds[at + 7] = row[7];
+    if message::map_length(map) == 0 {
+        return;
+    }
+    let row = map as usize;
+    bounds[row] = low;
+    bounds[ROWS + row] = span;
 }
 
-// The lowest bytes: the map itself, 1 for a value and for the ballot of a 1a, else 0. In the row of an unknown map they are a byte that is
-// looked up in another row.
-fn low_bounds() -> [u8; BOUNDS]
-    ensures { λ r. ⌜ r ≡ lows ⌝ }
-{
-    let mut low = [0x3Fu8; BOUNDS];
-    put_row(&mut low, 0x09, [0x09, 0, 1, 0, 0, 0, 0, 0]);
-    put_row(&mut low, 0x07, [0x07, 0, 0, 0, 0, 0, 0, 0]);
-    put_row(&mut low, 0x1F, [0x1F, 0, 0, 0, 0, 1, 0, 0]);
-    put_row(&mut low, 0x19, [0x19, 0, 0, 1, 0, 0, 0, 0]);
-    put_row(&mut low, 0x1B, [0x1B, 0, 0, 0, 1, 0, 0, 0]);
-    put_row(&mut low, 0x10, [0x10, 1, 0, 0, 0, 0, 0, 0]);
-    low
-}
-
-// How far above the lowest a byte may lie: up to the last instance and acceptor of the plan, 1 for a value, 255 for a ballot (254 in a 1a)
-// and after the slot, and not at all for the map and after the message.
-fn spans(plan: Plan) -> [u8; BOUNDS]
+// The bounds of a plan, where all were zeros. The lowest bytes: the map itself, 1 for a value and for the ballot of a 1a, else 0. How far
+// above them: up to the last instance and acceptor of the plan, 1 for a value, 255 for a ballot (254 in a 1a) and after the slot, and not
+// at all for the map and after the message. In the row of an unknown map the lowest byte is one that is looked up in another row.
+fn put_bounds(bounds: &mut [[u8; ROW_SIZE]; BOUNDS], plan: Plan)
     requires { ⌜ isPlan plan ≡ true ⌝ }
-    ensures { λ r. ⌜ r ≡ spansOf plan ⌝ }
+    ensures { λ _. ⌜ now (bounds .exit) ≡ putBounds plan (now (bounds .entry)) ⌝ }
 {
     let ins = plan.rms - 1;
     let acc = plan.acceptors - 1;
-    let mut span = [0u8; BOUNDS];
-    put_row(&mut span, 0x09, [0, ins, 254, 0, 0, 0, 255, 255]);
-    put_row(&mut span, 0x07, [0, ins, acc, 255, 0, 0, 255, 255]);
-    put_row(&mut span, 0x1F, [0, ins, acc, 255, 255, 1, 255, 255]);
-    put_row(&mut span, 0x19, [0, ins, 255, 1, 0, 0, 255, 255]);
-    put_row(&mut span, 0x1B, [0, ins, acc, 255, 1, 0, 255, 255]);
-    put_row(&mut span, 0x10, [0, 1, 0, 0, 0, 0, 255, 255]);
-    span
+    bounds[0] = [1, 0, 0, 0, 0, 0, 0, 0];
+    put_row(
+        bounds,
+        0x09,
+        [0x09, 0, 1, 0, 0, 0, 0, 0],
+        [0, ins, 254, 0, 0, 0, 255, 255],
+    );
+    put_row(
+        bounds,
+        0x07,
+        [0x07, 0, 0, 0, 0, 0, 0, 0],
+        [0, ins, acc, 255, 0, 0, 255, 255],
+    );
+    put_row(
+        bounds,
+        0x1F,
+        [0x1F, 0, 0, 0, 0, 1, 0, 0],
+        [0, ins, acc, 255, 255, 1, 255, 255],
+    );
+    put_row(
+        bounds,
+        0x19,
+        [0x19, 0, 0, 1, 0, 0, 0, 0],
+        [0, ins, 255, 1, 0, 0, 255, 255],
+    );
+    put_row(
+        bounds,
+        0x1B,
+        [0x1B, 0, 0, 0, 1, 0, 0, 0],
+        [0, ins, acc, 255, 1, 0, 255, 255],
+    );
+    put_row(
+        bounds,
+        0x10,
+        [0x10, 1, 0, 0, 0, 0, 0, 0],
+        [0, 1, 0, 0, 0, 0, 255, 255],
+    );
 }
 
 // By how much `a` is more than `b`.
@@ -149,32 +147,48 @@ struct Eight {
 
 fn add_four(
     seen: Four,
-    low: &[u8; BOUNDS],
-    span: &[u8; BOUNDS],
+    bounds: &[[u8; ROW_SIZE]; BOUNDS],
     row: usize,
+    from: usize,
     table: &[u8],
     at: usize,
 ) -> Four
-    requires { ⌜ (row + 4 ≤ 256) × (at + 4 ≤ length (now table)) ⌝ }
-    ensures { λ r. ⌜ isClear r ≡ (isClear seen && fourWithin (now (low .entry)) (now (span .entry)) row (now (table .entry)) at) ⌝ }
+    requires { ⌜ (row < 64) × (from + 4 ≤ 8) × (at + 4 ≤ length (now table)) ⌝ }
+    ensures { λ r. ⌜ isClear r ≡ (isClear seen && fourWithin (now (bounds .entry)) row from (now (table .entry)) at) ⌝ }
 {
+    let span = ROWS + row;
     Four {
-        b0: lane(seen.b0, low[row], table[at], span[row]),
-        b1: lane(seen.b1, low[row + 1], table[at + 1], span[row + 1]),
-        b2: lane(seen.b2, low[row + 2], table[at + 2], span[row + 2]),
-        b3: lane(seen.b3, low[row + 3], table[at + 3], span[row + 3]),
+        b0: lane(seen.b0, bounds[row][from], table[at], bounds[span][from]),
+        b1: lane(
+            seen.b1,
+            bounds[row][from + 1],
+            table[at + 1],
+            bounds[span][from + 1],
+        ),
+        b2: lane(
+            seen.b2,
+            bounds[row][from + 2],
+            table[at + 2],
+            bounds[span][from + 2],
+        ),
+        b3: lane(
+            seen.b3,
+            bounds[row][from + 3],
+            table[at + 3],
+            bounds[span][from + 3],
+        ),
     }
 }
 
 // One slot further: the slot that begins at an index, and the two bytes after it.
-fn add_slot(seen: Eight, low: &[u8; BOUNDS], span: &[u8; BOUNDS], table: &[u8], at: usize) -> Eight
+fn add_slot(seen: Eight, bounds: &[[u8; ROW_SIZE]; BOUNDS], table: &[u8], at: usize) -> Eight
     requires { ⌜ at + 8 ≤ length (now table) ⌝ }
-    ensures { λ r. ⌜ areClear r ≡ (areClear seen && isForm (now (low .entry)) (now (span .entry)) (now (table .entry)) at) ⌝ }
+    ensures { λ r. ⌜ areClear r ≡ (areClear seen && isForm (now (bounds .entry)) (now (table .entry)) at) ⌝ }
 {
-    let row = table[at] as usize % 32 * ROW_SIZE;
+    let row = table[at] as usize % ROWS;
     Eight {
-        front: add_four(seen.front, low, span, row, table, at),
-        back: add_four(seen.back, low, span, row + 4, table, at + 4),
+        front: add_four(seen.front, bounds, row, 0, table, at),
+        back: add_four(seen.back, bounds, row, 4, table, at + 4),
     }
 }
 
@@ -190,7 +204,15 @@ fn are_clear(seen: Eight) -> bool
     is_clear(seen.front) & is_clear(seen.back)
 }
 
-// The last used slot, with zeros where the table has no bytes after it.
+// How many of the used slots have another slot after them.
+fn followed(used: usize, count: usize) -> usize
+    requires { ⌜ (0 < used) × (used ≤ count) ⌝ }
+    ensures { λ r. ⌜ (r ≤ used) × (used ≤ r + 1) × (r < count) ⌝ }
+{
+    if used < count { used } else { used - 1 }
+}
+
+// The last slot of a table, with zeros where the table has no bytes after it.
 fn last_slot(table: &[u8], at: usize) -> [u8; ROW_SIZE]
     requires { ⌜ at + slotSize ≤ length (now table) ⌝ }
     ensures { λ r. ⌜ r ≡ eightAt (now (table .entry)) at ⌝ }
@@ -235,14 +257,14 @@ fn edge(table: &[u8]) -> usize
 }
 
 // Whether the first slots, this many, hold messages, by the bounds of the plan.
-fn are_forms(plan: Plan, low: &[u8; BOUNDS], span: &[u8; BOUNDS], table: &[u8], used: usize) -> bool
-    requires { ⌜ Bounded plan (now low) (now span) × (used ≤ length (now table) / slotSize) ⌝ }
+fn are_forms(plan: Plan, bounds: &[[u8; ROW_SIZE]; BOUNDS], table: &[u8], used: usize) -> bool
+    requires { ⌜ Bounded plan (now bounds) × (used ≤ length (now table) / slotSize) ⌝ }
     ensures { λ r. ⌜ r ≡ areUsed plan (now (table .entry)) used ⌝ }
 {
     if used == 0 {
         return true;
     }
-    let last = used - 1;
+    let last = followed(used, table.len() / SLOT_SIZE);
     let quarter = last / 4;
     let mut seen = Eight {
         front: Four {
@@ -264,64 +286,61 @@ fn are_forms(plan: Plan, low: &[u8; BOUNDS], span: &[u8; BOUNDS], table: &[u8], 
         let second = first + quarter * SLOT_SIZE;
         let third = second + quarter * SLOT_SIZE;
         let fourth = third + quarter * SLOT_SIZE;
-        seen = add_slot(seen, low, span, table, first);
-        seen = add_slot(seen, low, span, table, second);
-        seen = add_slot(seen, low, span, table, third);
-        seen = add_slot(seen, low, span, table, fourth);
+        seen = add_slot(seen, bounds, table, first);
+        seen = add_slot(seen, bounds, table, second);
+        seen = add_slot(seen, bounds, table, third);
+        seen = add_slot(seen, bounds, table, fourth);
         place += 1;
     }
     let mut rest = 4 * quarter;
     while rest < last {
         let from = rest * SLOT_SIZE;
-        seen = add_slot(seen, low, span, table, from);
+        seen = add_slot(seen, bounds, table, from);
         rest += 1;
     }
+    if last == used {
+        return are_clear(seen);
+    }
     let slot = last_slot(table, last * SLOT_SIZE);
-    seen = add_slot(seen, low, span, &slot, 0);
+    seen = add_slot(seen, bounds, &slot, 0);
     are_clear(seen)
 }
 
-// Whether every slot is unused or holds a message, and used slots come first, in one pass. Where the first byte is no map no slot is used.
-fn is_table_within(plan: Plan, low: &[u8; BOUNDS], span: &[u8; BOUNDS], table: &[u8]) -> bool
-    requires { ⌜ Bounded plan (now low) (now span) ⌝ }
+// Whether every slot is unused or holds a message, and used slots come first, in one pass. Where the first byte is 0 no slot is used.
+fn is_table_within(plan: Plan, bounds: &[[u8; ROW_SIZE]; BOUNDS], table: &[u8]) -> bool
+    requires { ⌜ Bounded plan (now bounds) ⌝ }
     ensures { λ r. ⌜ r ≡ isTable plan (now (table .entry)) ⌝ }
 {
     let to = table.len() / SLOT_SIZE * SLOT_SIZE;
-    if message::map_length(message::byte_at(table, 0)) == 0 {
+    if message::byte_at(table, 0) == 0 {
         return is_zero(&table[..to]);
     }
     let used = edge(table);
-    if !are_forms(plan, low, span, table, used) {
+    if !are_forms(plan, bounds, table, used) {
         return false;
     }
     is_zero(&table[used * SLOT_SIZE..to])
 }
 
-// Whether one table, N, is well formed; where it is not, refusal 5. Where its first byte is no map no slot is used, and no bounds are made.
+// Whether one table, N, is well formed; where it is not, refusal 5. Where its first byte is 0 no slot is used, and no bounds are made.
 pub fn is_table(plan: Plan, table: &[u8]) -> bool
     ensures { λ r. ⌜ r ≡ isTable plan (now (table .entry)) ⌝ }
 {
     let to = table.len() / SLOT_SIZE * SLOT_SIZE;
-    if message::map_length(message::byte_at(table, 0)) == 0 {
+    if message::byte_at(table, 0) == 0 {
         return is_zero(&table[..to]);
     }
     if !message::is_plan(plan) {
         return is_zero(&table[..to]);
     }
-    let low = low_bounds();
-    let span = spans(plan);
-    is_table_within(plan, &low, &span, table)
+    let mut bounds = [[0u8; ROW_SIZE]; BOUNDS];
+    put_bounds(&mut bounds, plan);
+    is_table_within(plan, &bounds, table)
 }
 
 // Whether each of so many equal parts is a table by itself.
-fn are_tables(
-    plan: Plan,
-    low: &[u8; BOUNDS],
-    span: &[u8; BOUNDS],
-    parts: usize,
-    tables: &[u8],
-) -> bool
-    requires { ⌜ Bounded plan (now low) (now span) ⌝ }
+fn are_tables(plan: Plan, bounds: &[[u8; ROW_SIZE]; BOUNDS], parts: usize, tables: &[u8]) -> bool
+    requires { ⌜ Bounded plan (now bounds) ⌝ }
     ensures { λ r. ⌜ r ≡ areTables plan parts (now (tables .entry)) ⌝ }
 {
     if parts == 0 {
@@ -332,7 +351,7 @@ fn are_tables(
     while part < parts {
         let from = part * size;
         let to = from + size;
-        if !is_table_within(plan, low, span, &tables[from..to]) {
+        if !is_table_within(plan, bounds, &tables[from..to]) {
             return false;
         }
         part += 1;
@@ -348,12 +367,12 @@ pub fn judge(plan: Plan, network: &[u8], parts: usize, inboxes: &[u8]) -> Judged
     if !message::is_plan(plan) {
         return Judged::Refused(1);
     }
-    let low = low_bounds();
-    let span = spans(plan);
-    if !is_table_within(plan, &low, &span, network) {
+    let mut bounds = [[0u8; ROW_SIZE]; BOUNDS];
+    put_bounds(&mut bounds, plan);
+    if !is_table_within(plan, &bounds, network) {
         return Judged::Refused(5);
     }
-    if !are_tables(plan, &low, &span, parts, inboxes) {
+    if !are_tables(plan, &bounds, parts, inboxes) {
         return Judged::Refused(6);
     }
     Judged::Sound

@@ -13,15 +13,7 @@ add-slot-spec =
     (tie.spec
     (λ c. search needs)
     (λ c. omega (arith, c .shared-slice-known2 .given (c .before .before .args .at)))
-    (λ c. omega (arith, c .shared-slice-known2 .given (c .before .before .args .at)))
-    (λ c κs. (
-      omega (arith, c .shared-slice-known2 .given (c .before .before .args .at)),
-      omega (arith, c .before .before .pre),
-    ))
-    (λ c. omega (arith, c .before .shared-slice-known2 .given (c .before .before .before .args .at)))
+    (λ c κs. search needs)
     (λ c. search needs)
-    (λ c κs. (
-      omega (arith, c .before .shared-slice-known2 .given (c .before .before .before .args .at)),
-      omega (arith, c .before .before .before .pre),
-    ))
+    (λ c κs. search needs)
     (λ c. slot-lanes (c .before .before .before .before .args .seen) _ _ _ (c .before .add-four .ensures) (c .add-four2 .ensures)))

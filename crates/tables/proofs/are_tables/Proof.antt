@@ -12,10 +12,10 @@ use Rattle.tables.proofs.are_tables.Statement.{statement}
 use Rattle.tables.proofs.are_tables.Tie as tie
 
 abbrev Inv-loop : tie.InvT-loop
-Inv-loop plan low span parts tables size part₀ part = (part ≤ parts) × (tablesUpTo plan size part tables ≡ true)
+Inv-loop plan bounds parts tables size part₀ part = (part ≤ parts) × (tablesUpTo plan size part tables ≡ true)
 
 abbrev μ-loop : tie.MeasureT-loop
-μ-loop plan low span parts tables size part₀ part = parts - part
+μ-loop plan bounds parts tables size part₀ part = parts - part
 
 pub are-tables-spec : {M : Type 1} → statement M
 unfolding areTables

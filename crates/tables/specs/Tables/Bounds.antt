@@ -1,11 +1,10 @@
 -- A slot judged by bounds of its bytes.
 --     distanceFrom, isWithin     how far above the lowest byte another lies, and whether that is within a span
---     putRow                     the bounds at the places of a map's slot, among those of all maps
---     lows, spansOf, Bounded     all bounds; nothing but zeros after the message, and any two bytes after the slot
---     fourWithin, isForm         the slot's bytes and the two after it lie within the bounds of its map
+--     putRow, putBounds, boundsOf, Bounded     the rows of a map, and all; nothing but zeros after the message, and any two bytes after the slot
+--     bound, fourWithin, isForm  the slot's bytes and the two after it lie within the bounds of its map
 --     isClear, areClear, eightAt     four bytes that are all zero, and eight; a slot's bytes and the two after it
 -- proofs/Forms.antt says that such a slot is a used one. Assumes nothing.
-use Prim.Native.Nat.{ℕ, _+_, _-_, _*_, _%_}
+use Prim.Native.Nat.{ℕ, _+_, _-_, _%_}
 use mathlib.Core.Bool.{Bool, true, _&&_, _||_, cond}
 use mathlib.Core.List.{List, [], _∷_}
 use mathlib.Core.Path.{_≡_}
@@ -13,6 +12,7 @@ use lib.Dec.{leb, eqb}
 use lib.ListN.{getD, set, replicate}
 use Rattle.message.specs.declared.Plan.{Plan}
 use Rattle.message.specs.Plan.{isPlan}
+use Rattle.message.specs.Form.{mapLength}
 use Rattle.tables.specs.declared.Four.{Four}
 use Rattle.tables.specs.declared.Eight.{Eight}
 
@@ -25,55 +25,45 @@ unfoldable pub isWithin : ℕ → ℕ → ℕ → Bool
 isWithin low byte span =
     leb 255 span || cond (leb low byte) (leb 255 (low + span) || leb (byte - low) span) (leb (byte + 256 - low) span)
 
--- one bound of a map, at a place of its slot
-unfoldable pub putBound : List ℕ → ℕ → ℕ → ℕ → List ℕ
-putBound bounds map place byte = set bounds (map * 8 + place) byte
+-- the rows of a map, where it is known: its lowest bytes, and how far above them
+unfoldable pub putRow : List (List ℕ) → ℕ → List ℕ → List ℕ → List (List ℕ)
+putRow bounds map low span = cond (eqb (mapLength map) 0) bounds (set (set bounds map low) (64 + map) span)
 
-unfoldable pub putRow : List ℕ → ℕ → List ℕ → List ℕ
-putRow bounds map row =
-    putBound (putBound (putBound (putBound (putBound (putBound (putBound (putBound bounds
-    map 0 (getD row 0 0)) map 1 (getD row 1 0)) map 2 (getD row 2 0)) map 3 (getD row 3 0)) map 4 (getD row 4 0)) map 5 (getD row 5 0))
-    map 6 (getD row 6 0)) map 7 (getD row 7 0)
+-- the lowest bytes: the map itself, 1 for a value and for the ballot of a 1a; in the row of an unknown map a byte of another row.
+-- how far above them: up to the last instance and acceptor of the plan, 1 for a value, 255 for a ballot (254 in a 1a) and after the slot
+unfoldable pub putBounds : Plan → List (List ℕ) → List (List ℕ)
+putBounds p bounds =
+    putRow (putRow (putRow (putRow (putRow (putRow (set bounds 0 (1 ∷ 0 ∷ 0 ∷ 0 ∷ 0 ∷ 0 ∷ 0 ∷ 0 ∷ []))
+    0x09 (0x09 ∷ 0 ∷ 1 ∷ 0 ∷ 0 ∷ 0 ∷ 0 ∷ 0 ∷ []) (0 ∷ (p .rms - 1) ∷ 254 ∷ 0 ∷ 0 ∷ 0 ∷ 255 ∷ 255 ∷ []))
+    0x07 (0x07 ∷ 0 ∷ 0 ∷ 0 ∷ 0 ∷ 0 ∷ 0 ∷ 0 ∷ []) (0 ∷ (p .rms - 1) ∷ (p .acceptors - 1) ∷ 255 ∷ 0 ∷ 0 ∷ 255 ∷ 255 ∷ []))
+    0x1F (0x1F ∷ 0 ∷ 0 ∷ 0 ∷ 0 ∷ 1 ∷ 0 ∷ 0 ∷ []) (0 ∷ (p .rms - 1) ∷ (p .acceptors - 1) ∷ 255 ∷ 255 ∷ 1 ∷ 255 ∷ 255 ∷ []))
+    0x19 (0x19 ∷ 0 ∷ 0 ∷ 1 ∷ 0 ∷ 0 ∷ 0 ∷ 0 ∷ []) (0 ∷ (p .rms - 1) ∷ 255 ∷ 1 ∷ 0 ∷ 0 ∷ 255 ∷ 255 ∷ []))
+    0x1B (0x1B ∷ 0 ∷ 0 ∷ 0 ∷ 1 ∷ 0 ∷ 0 ∷ 0 ∷ []) (0 ∷ (p .rms - 1) ∷ (p .acceptors - 1) ∷ 255 ∷ 1 ∷ 0 ∷ 255 ∷ 255 ∷ []))
+    0x10 (0x10 ∷ 1 ∷ 0 ∷ 0 ∷ 0 ∷ 0 ∷ 0 ∷ 0 ∷ []) (0 ∷ 1 ∷ 0 ∷ 0 ∷ 0 ∷ 0 ∷ 255 ∷ 255 ∷ [])
 
--- the lowest bytes: the map itself, 1 for a value and for the ballot of a 1a; in the row of an unknown map 3F, which is looked up in that of 1F
-unfoldable pub lows : List ℕ
-lows =
-    putRow (putRow (putRow (putRow (putRow (putRow (replicate 256 0x3F)
-    0x09 (0x09 ∷ 0 ∷ 1 ∷ 0 ∷ 0 ∷ 0 ∷ 0 ∷ 0 ∷ []))
-    0x07 (0x07 ∷ 0 ∷ 0 ∷ 0 ∷ 0 ∷ 0 ∷ 0 ∷ 0 ∷ []))
-    0x1F (0x1F ∷ 0 ∷ 0 ∷ 0 ∷ 0 ∷ 1 ∷ 0 ∷ 0 ∷ []))
-    0x19 (0x19 ∷ 0 ∷ 0 ∷ 1 ∷ 0 ∷ 0 ∷ 0 ∷ 0 ∷ []))
-    0x1B (0x1B ∷ 0 ∷ 0 ∷ 0 ∷ 1 ∷ 0 ∷ 0 ∷ 0 ∷ []))
-    0x10 (0x10 ∷ 1 ∷ 0 ∷ 0 ∷ 0 ∷ 0 ∷ 0 ∷ 0 ∷ [])
-
--- how far above the lowest: up to the last instance and acceptor of the plan, 1 for a value, 255 for a ballot (254 in a 1a) and after the slot
-unfoldable pub spansOf : Plan → List ℕ
-spansOf p =
-    putRow (putRow (putRow (putRow (putRow (putRow (replicate 256 0)
-    0x09 (0 ∷ (p .rms - 1) ∷ 254 ∷ 0 ∷ 0 ∷ 0 ∷ 255 ∷ 255 ∷ []))
-    0x07 (0 ∷ (p .rms - 1) ∷ (p .acceptors - 1) ∷ 255 ∷ 0 ∷ 0 ∷ 255 ∷ 255 ∷ []))
-    0x1F (0 ∷ (p .rms - 1) ∷ (p .acceptors - 1) ∷ 255 ∷ 255 ∷ 1 ∷ 255 ∷ 255 ∷ []))
-    0x19 (0 ∷ (p .rms - 1) ∷ 255 ∷ 1 ∷ 0 ∷ 0 ∷ 255 ∷ 255 ∷ []))
-    0x1B (0 ∷ (p .rms - 1) ∷ (p .acceptors - 1) ∷ 255 ∷ 1 ∷ 0 ∷ 255 ∷ 255 ∷ []))
-    0x10 (0 ∷ 1 ∷ 0 ∷ 0 ∷ 0 ∷ 0 ∷ 255 ∷ 255 ∷ [])
+unfoldable pub boundsOf : Plan → List (List ℕ)
+boundsOf p = putBounds p (replicate 128 (replicate 8 0))
 
 -- the bounds of a plan, which is in range
-pub record Bounded (p : Plan) (low span : List ℕ) : Type 0 where
+pub record Bounded (p : Plan) (bounds : List (List ℕ)) : Type 0 where
   pub plan : isPlan p ≡ true
-  pub lowest : low ≡ lows
-  pub spans : span ≡ spansOf p
+  pub rows : bounds ≡ boundsOf p
 
--- four bytes from an index on lie within the bounds from another on
-unfoldable pub fourWithin : List ℕ → List ℕ → ℕ → List ℕ → ℕ → Bool
-fourWithin low span row t at =
-    isWithin (getD low row 0) (getD t at 0) (getD span row 0)
-    && isWithin (getD low (row + 1) 0) (getD t (at + 1) 0) (getD span (row + 1) 0)
-    && isWithin (getD low (row + 2) 0) (getD t (at + 2) 0) (getD span (row + 2) 0)
-    && isWithin (getD low (row + 3) 0) (getD t (at + 3) 0) (getD span (row + 3) 0)
+-- the bound at a place of a row
+unfoldable pub bound : List (List ℕ) → ℕ → ℕ → ℕ
+bound bounds row place = getD (getD bounds row []) place 0
+
+-- four bytes from an index on lie within a row's bounds from a place on
+unfoldable pub fourWithin : List (List ℕ) → ℕ → ℕ → List ℕ → ℕ → Bool
+fourWithin b row from t at =
+    isWithin (bound b row from) (getD t at 0) (bound b (64 + row) from)
+    && isWithin (bound b row (from + 1)) (getD t (at + 1) 0) (bound b (64 + row) (from + 1))
+    && isWithin (bound b row (from + 2)) (getD t (at + 2) 0) (bound b (64 + row) (from + 2))
+    && isWithin (bound b row (from + 3)) (getD t (at + 3) 0) (bound b (64 + row) (from + 3))
 
 -- the slot's bytes and the two after it lie within the bounds of its map
-unfoldable pub isForm : List ℕ → List ℕ → List ℕ → ℕ → Bool
-isForm low span t at = fourWithin low span (getD t at 0 % 32 * 8) t at && fourWithin low span (getD t at 0 % 32 * 8 + 4) t (at + 4)
+unfoldable pub isForm : List (List ℕ) → List ℕ → ℕ → Bool
+isForm b t at = fourWithin b (getD t at 0 % 64) 0 t at && fourWithin b (getD t at 0 % 64) 4 t (at + 4)
 
 unfoldable pub isClear : Four → Bool
 isClear s = eqb (s .b0) 0 && eqb (s .b1) 0 && eqb (s .b2) 0 && eqb (s .b3) 0

@@ -1,5 +1,5 @@
 -- A test of numbers that follow each other, and of four such runs side by side.
---     each, each-at, each-all, each-suc, each-last     the test of n numbers from a on
+--     each, each-at, each-all, each-suc, each-same, each-last     the test of n numbers from a on
 --     fourEach, four-start, four-step, four-all     four runs of the same length, one number further in each, and at their ends
 --     zero-all                              a list of zeros
 -- Assumes nothing.
@@ -94,6 +94,10 @@ module _ (f : ℕ → Bool) where
   pub each-suc : (n : ℕ) (b r : Bool) → b ≡ each f 0 n → r ≡ (b && f n) → r ≡ each f 0 (n + 1)
   unfolding each
   each-suc n b r e x = rw (x, e, add-one n, zero-add n) refl
+
+  -- no more than these
+  pub each-same : (n u : ℕ) → n ≡ u → each f 0 n ≡ each f 0 u
+  each-same n u e = ap (each f 0) e
 
   -- the last one
   pub each-last : (n m u : ℕ) (b r : Bool) → b ≡ each f 0 n → n ≤ m → m ≤ n → r ≡ (b && f m) → u ≡ m + 1 → r ≡ each f 0 u

@@ -1,14 +1,18 @@
--- `tables::low_bounds` meets its contract: the rows one after the other. Assumes nothing.
+-- `tables::put_bounds` meets its contract: the rows one after the other. Assumes nothing.
 use borrow.Author.Needs.{needs}
-use Rattle.tables.specs.Tables.Bounds.{lows}
-use Rattle.tables.proofs.low_bounds.Statement.{statement}
-use Rattle.tables.proofs.low_bounds.Tie as tie
+use Rattle.message.specs.Plan.Laws.{plan-bounds}
+use Rattle.tables.specs.Tables.Bounds.{putBounds}
+use Rattle.tables.proofs.put_bounds.Statement.{statement}
+use Rattle.tables.proofs.put_bounds.Tie as tie
 
-pub low-bounds-spec : {M : Type 1} → statement M
-unfolding lows
-low-bounds-spec =
+pub put-bounds-spec : {M : Type 1} → statement M
+unfolding putBounds
+put-bounds-spec =
     tie.close
     (tie.spec
+    (λ c. plan-bounds _ (c .before .pre) .rms-least)
+    (λ c. plan-bounds _ (c .before .before .pre) .acceptors-least)
+    (λ c. search needs)
     (λ c κs. search needs)
     (λ c κs. search needs)
     (λ c κs. search needs)

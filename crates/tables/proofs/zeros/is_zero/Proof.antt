@@ -1,4 +1,4 @@
--- `tables::is_zero` meets its contract: four quarters side by side, then the rest. Assumes nothing.
+-- `tables::zeros::is_zero` meets its contract: four quarters side by side, then the rest. Assumes nothing.
 use Prim.Native.Nat.{ℕ, _≤_, _-_}
 use mathlib.Core.Bool.{Bool}
 use mathlib.Core.List.{List}
@@ -7,8 +7,8 @@ use lib.Dec.{eqb}
 use lib.ListN.{length, getD}
 use borrow.Author.Needs.{needs}
 use Rattle.tables.specs.Tables.Each.{each, fourEach, four-start, four-step, four-all, each-suc, zero-all}
-use Rattle.tables.proofs.is_zero.Statement.{statement}
-use Rattle.tables.proofs.is_zero.Tie as tie
+use Rattle.tables.proofs.zeros.is_zero.Statement.{statement}
+use Rattle.tables.proofs.zeros.is_zero.Tie as tie
 
 -- the byte at an index is zero
 abbrev zeroAt : List ℕ → ℕ → Bool

@@ -1,7 +1,0 @@
--- `tables::either` meets its contract. Assumes nothing.
-use Rattle.slots.proofs.Zeros.{or-zero}
-use Rattle.tables.proofs.either.Statement.{statement}
-use Rattle.tables.proofs.either.Tie as tie
-
-pub either-spec : {M : Type 1} → statement M
-either-spec = tie.close (tie.spec (λ c. or-zero (c .args .a) (c .args .b)))

@@ -1,0 +1,7 @@
+-- `tables::zeros::either` meets its contract. Assumes nothing.
+use Rattle.slots.proofs.Zeros.{or-zero}
+use Rattle.tables.proofs.zeros.either.Statement.{statement}
+use Rattle.tables.proofs.zeros.either.Tie as tie
+
+pub either-spec : {M : Type 1} → statement M
+either-spec = tie.close (tie.spec (λ c. or-zero (c .args .a) (c .args .b)))
