@@ -58,7 +58,7 @@ fn phase1b_of(plan: Plan, votes: &[u8], network: &[u8], acc: u8, ins: u8, ballot
         mbal: ballot,
         vote: vote_of(bal, val),
     };
-    let send = slots::send_message(plan, network, report);
+    let send = search::send_message(plan, network, report);
     match send {
         Send::Slot { slot, store } => Verdict::Accepted(Change {
             table: Update::Vote {
@@ -92,7 +92,7 @@ fn phase2b_of(
         return Verdict::Refused(12);
     }
     let vote = Message::Phase2b { ins, acc, bal, val };
-    let send = slots::send_message(plan, network, vote);
+    let send = search::send_message(plan, network, vote);
     match send {
         Send::Slot { slot, store } => Verdict::Accepted(Change {
             table: Update::Vote {

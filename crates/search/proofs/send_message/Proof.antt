@@ -1,7 +1,7 @@
--- `slots::send_message` meets its contract: each arm says which place it is. Assumes nothing.
+-- `search::send_message` meets its contract: each arm says which place it is. Assumes nothing.
 use borrow.Author.Needs.{needs}
-use Rattle.slots.proofs.send_message.Statement.{statement}
-use Rattle.slots.proofs.send_message.Tie as tie
+use Rattle.search.proofs.send_message.Statement.{statement}
+use Rattle.search.proofs.send_message.Tie as tie
 
 pub send-message-spec : {M : Type 1} → statement M
 send-message-spec =
