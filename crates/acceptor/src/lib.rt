@@ -1,6 +1,5 @@
 // The step of an acceptor, kind 3, as a call by itself: Phase1b and Phase2b of document 001. It is lent Q and N.
 //
-//     are_votes              row 4 of "Refusals by place", in votes.rt
 //     judge                  the plan and both tables
 //     evaluate, perform      what an event comes to, and that stored (see the crate change)
 //     step                   the whole call
@@ -8,9 +7,6 @@ ghost use mathlib.Core.Path.{_≡_};
 ghost use Rattle.slots.specs.View.Bytes.{viewBytes};
 ghost use Rattle.change.specs.Change.{verdictOutcome, judgedOutcome, stepOf, applied};
 ghost use Rattle.acceptor.specs.Acceptor.{acceptorJudged, voteOf, voteAt, phase1b, phase2b, acceptorReceive, acceptorVerdict, acceptorStep};
-
-mod votes;
-
 use change::Answer;
 use change::Change;
 use change::Judged;
@@ -22,7 +18,6 @@ use message::Plan;
 use message::Read;
 use message::Vote;
 use slots::Send;
-pub use votes::are_votes;
 
 // The vote report of a last vote: none where the value is 0.
 fn vote_of(bal: u8, val: u8) -> Vote
@@ -175,7 +170,7 @@ pub fn judge(plan: Plan, votes: &[u8], network: &[u8]) -> Judged
     if !slots::is_table_length(network.len()) {
         return Judged::Refused(2);
     }
-    if !are_votes(votes) {
+    if !votes::are_votes(votes) {
         return Judged::Refused(4);
     }
     if !tables::is_table(plan, network) {

@@ -27,7 +27,8 @@ use Rattle.change.specs.Change.{Step, answerOutcome, judgedOutcome}
 use Rattle.event.specs.Event.{kindOf, whoOf, isEvent}
 use Rattle.inbox.specs.Inbox.{forAll}
 use Rattle.rm.specs.Rm.{areStates, rmStep}
-use Rattle.acceptor.specs.Acceptor.{areVotes, acceptorStep}
+use Rattle.votes.specs.Votes.{areVotes}
+use Rattle.acceptor.specs.Acceptor.{acceptorStep}
 use Rattle.leader.specs.Leader.{leaderStep}
 
 -- W, Q, N and I

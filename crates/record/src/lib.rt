@@ -66,7 +66,7 @@ pub fn judge(plan: Plan, states: &[u8], votes: &[u8], network: &[u8], inboxes: &
     if !rm::are_states(states) {
         return Judged::Refused(3);
     }
-    if !acceptor::are_votes(votes) {
+    if !votes::are_votes(votes) {
         return Judged::Refused(4);
     }
     tables::judge(plan, network, plan.leaders as usize, inboxes)

@@ -1,9 +1,9 @@
--- `acceptor::votes::gather_lanes` meets its contract: the first `j` lanes took in their bytes, and the rest is as before. Assumes nothing.
+-- `votes::gather_lanes` meets its contract: the first `j` lanes took in their bytes, and the rest is as before. Assumes nothing.
 use Prim.Native.Nat.{_≤_, _-_}
 use borrow.Author.Needs.{needs}
-use Rattle.acceptor.specs.Acceptor.Laws.Lanes.{Gathered, gathered-none, gathered-step, gathered-all}
-use Rattle.acceptor.proofs.votes.gather_lanes.Statement.{statement}
-use Rattle.acceptor.proofs.votes.gather_lanes.Tie as tie
+use Rattle.votes.specs.Votes.Laws.Lanes.{Gathered, gathered-none, gathered-step, gathered-all}
+use Rattle.votes.proofs.gather_lanes.Statement.{statement}
+use Rattle.votes.proofs.gather_lanes.Tie as tie
 
 abbrev Inv-loop : tie.InvT-loop
 Inv-loop lanes₀ votes at j₀ lanes j = (j ≤ 16) × Gathered j votes at lanes₀ lanes

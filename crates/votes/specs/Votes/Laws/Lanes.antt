@@ -14,8 +14,8 @@ use mathlib.Core.Path.{_≡_, refl, sym, _∙_}
 use lib.ListN.{length, getD, drop, set, length-set}
 use lib.Seq.{getD-set-same, getD-set-other}
 use borrow.Author.Tests.{le-leb}
-use Rattle.acceptor.specs.Acceptor.{isVoteState, areVotes}
-use Rattle.acceptor.specs.Acceptor.Laws.{areVotes-step}
+use Rattle.votes.specs.Votes.{isVoteState, areVotes}
+use Rattle.votes.specs.Votes.Laws.{areVotes-step}
 
 pub ordered : (bal val sign : ℕ) → val ≤ 2 → sign ≤ val → (sign ≡ 0 → bal ≡ 0) → isVoteState bal val ≡ true
 unfolding isVoteState

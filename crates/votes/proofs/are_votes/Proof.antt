@@ -1,14 +1,14 @@
--- `acceptor::votes::are_votes` meets its contract: the bytes from `i` on are votes exactly when all are. Assumes nothing.
+-- `votes::are_votes` meets its contract: the bytes from `i` on are votes exactly when all are. Assumes nothing.
 use denote.Ref.{now}
-use Rattle.acceptor.specs.Acceptor.{areVotes}
+use Rattle.votes.specs.Votes.{areVotes}
 use Rattle.message.proofs.Guards.{passed, failed}
 use borrow.Author.Needs.{needs}
 use lib.ListN.{length, drop}
 use Prim.Native.Nat.{_≤_, _-_}
 use mathlib.Core.Path.{_≡_, sym, _∙_}
-use Rattle.acceptor.specs.Acceptor.Laws.{areVotes-step, areVotes-stop, areVotes-end}
-use Rattle.acceptor.proofs.votes.are_votes.Statement.{statement}
-use Rattle.acceptor.proofs.votes.are_votes.Tie as tie
+use Rattle.votes.specs.Votes.Laws.{areVotes-step, areVotes-stop, areVotes-end}
+use Rattle.votes.proofs.are_votes.Statement.{statement}
+use Rattle.votes.proofs.are_votes.Tie as tie
 
 abbrev Inv-loop : tie.InvT-loop
 Inv-loop votes len i₀ i = (i ≤ length votes) × (areVotes (drop i votes) ≡ areVotes votes)

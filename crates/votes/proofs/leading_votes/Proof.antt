@@ -1,13 +1,13 @@
--- `acceptor::votes::leading_votes` meets its contract: where the lanes are clear, the bytes from `i` on are votes exactly when all are. Assumes nothing.
+-- `votes::leading_votes` meets its contract: where the lanes are clear, the bytes from `i` on are votes exactly when all are. Assumes nothing.
 use Prim.Native.Nat.{_≤_, _-_}
 use mathlib.Core.Path.{_≡_, refl, _∙_}
 use lib.ListN.{length, drop}
 use borrow.Author.Needs.{needs}
 use Rattle.message.proofs.Guards.{passed}
-use Rattle.acceptor.specs.Acceptor.{areVotes}
-use Rattle.acceptor.specs.Acceptor.Laws.Lanes.{Clear, block-votes}
-use Rattle.acceptor.proofs.votes.leading_votes.Statement.{statement}
-use Rattle.acceptor.proofs.votes.leading_votes.Tie as tie
+use Rattle.votes.specs.Votes.{areVotes}
+use Rattle.votes.specs.Votes.Laws.Lanes.{Clear, block-votes}
+use Rattle.votes.proofs.leading_votes.Statement.{statement}
+use Rattle.votes.proofs.leading_votes.Tie as tie
 
 abbrev Inv-loop : tie.InvT-loop
 Inv-loop votes len first₀ second₀ third₀ i₀ first second third i =

@@ -1,15 +1,17 @@
-// Judging Q, row 4 of "Refusals by place".
+// Judging Q, the acceptors' votes: row 4 of "Refusals by place" (document 01).
 //
 //     either, over, sign, gather      what two bytes leave where they are not in order, without a branch
 //     gather_lanes, is_clear          the same for 16 bytes together, whichever of them are bal and val; then the lanes that count
 //     leading_votes                   16 places of Q at a time
 //     is_vote_state, are_votes        the rest place by place
+//
+// What it means stands in specs/. No public function has a `requires`.
 ghost use mathlib.Core.Bool.{true};
 ghost use mathlib.Core.Path.{_≡_};
 ghost use Prim.Native.Nat.{_+_, _≤_, _<_};
 ghost use lib.ListN.{length, drop};
-ghost use Rattle.acceptor.specs.Acceptor.{isVoteState, areVotes};
-ghost use Rattle.acceptor.specs.Acceptor.Laws.Lanes.{Gathered, Clear};
+ghost use Rattle.votes.specs.Votes.{isVoteState, areVotes};
+ghost use Rattle.votes.specs.Votes.Laws.Lanes.{Gathered, Clear};
 
 // Bytes that are looked at together.
 const LANES: usize = 16;

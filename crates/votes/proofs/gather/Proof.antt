@@ -1,7 +1,7 @@
--- `acceptor::votes::gather` meets its contract: where nothing is left, no part left anything. Assumes nothing.
-use Rattle.acceptor.specs.Acceptor.Laws.Lanes.{ordered}
-use Rattle.acceptor.proofs.votes.gather.Statement.{statement}
-use Rattle.acceptor.proofs.votes.gather.Tie as tie
+-- `votes::gather` meets its contract: where nothing is left, no part left anything. Assumes nothing.
+use Rattle.votes.specs.Votes.Laws.Lanes.{ordered}
+use Rattle.votes.proofs.gather.Statement.{statement}
+use Rattle.votes.proofs.gather.Tie as tie
 
 pub gather-spec : {M : Type 1} → statement M
 gather-spec =

@@ -1,11 +1,11 @@
--- `acceptor::votes::is_clear` meets its contract: where the lanes passed left nothing, they are 0. Assumes nothing.
+-- `votes::is_clear` meets its contract: where the lanes passed left nothing, they are 0. Assumes nothing.
 use Prim.Native.Nat.{_≤_, _-_}
 use mathlib.Core.Path.{_≡_}
 use borrow.Author.Needs.{needs}
 use borrow.Author.Tests.{eqb-true}
-use Rattle.acceptor.specs.Acceptor.Laws.Lanes.{Clear, clear-none, clear-step, clear-all}
-use Rattle.acceptor.proofs.votes.is_clear.Statement.{statement}
-use Rattle.acceptor.proofs.votes.is_clear.Tie as tie
+use Rattle.votes.specs.Votes.Laws.Lanes.{Clear, clear-none, clear-step, clear-all}
+use Rattle.votes.proofs.is_clear.Statement.{statement}
+use Rattle.votes.proofs.is_clear.Tie as tie
 
 abbrev Inv-loop : tie.InvT-loop
 Inv-loop lanes any₀ k₀ any k = (k ≤ 6) × (any ≡ 0 → Clear k lanes)
