@@ -268,9 +268,9 @@ fn evaluate_kind(plan: Plan, inbox: &[u8], network: &[u8], event: &[u8], kind: u
         return phase2a_of(plan, inbox, network, who, high, low);
     }
     if kind == 7 {
-        return decide_send(plan, network, inbox::is_decided_all(plan, inbox, 1), 1);
+        return decide_send(plan, network, decided::is_decided_all(plan, inbox, 1), 1);
     }
-    decide_send(plan, network, inbox::is_decided_some(plan, inbox, 2), 2)
+    decide_send(plan, network, decided::is_decided_some(plan, inbox, 2), 2)
 }
 
 // What the event comes to: 1 for the plan, 7 where it is no event of a leader, then 8, 9, 10, 12, 13 or 14. It judges no table: in one that nobody judged the

@@ -1,9 +1,9 @@
--- `inbox::is_decided_all` meets its contract: the branch decides whether the plan is in range. Assumes nothing.
+-- `decided::is_decided_all` meets its contract: the branch decides whether the plan is in range. Assumes nothing.
 use Rattle.message.proofs.Guards.{passed, failed}
 use Rattle.inbox.specs.Inbox.Bits.{quantify}
-use Rattle.inbox.proofs.Deciding.{bad-plan, good-plan}
-use Rattle.inbox.proofs.is_decided_all.Statement.{statement}
-use Rattle.inbox.proofs.is_decided_all.Tie as tie
+use Rattle.decided.proofs.Deciding.{bad-plan, good-plan}
+use Rattle.decided.proofs.is_decided_all.Statement.{statement}
+use Rattle.decided.proofs.is_decided_all.Tie as tie
 
 pub is-decided-all-spec : {M : Type 1} → statement M
 unfolding quantify

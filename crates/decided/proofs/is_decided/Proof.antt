@@ -1,10 +1,10 @@
--- `inbox::is_decided` meets its contract: without a message nothing is decided, and with one `gather_votes` says it. Assumes nothing.
+-- `decided::is_decided` meets its contract: without a message nothing is decided, and with one `gather_votes` says it. Assumes nothing.
 use native.Mathlib.Omega.{arith}
 use borrow.Author.Needs.{needs}
 use Rattle.inbox.specs.Inbox.Slots.{ahead-unused, ahead-end}
-use Rattle.inbox.proofs.Deciding.{none-decided}
-use Rattle.inbox.proofs.is_decided.Statement.{statement}
-use Rattle.inbox.proofs.is_decided.Tie as tie
+use Rattle.decided.proofs.Deciding.{none-decided}
+use Rattle.decided.proofs.is_decided.Statement.{statement}
+use Rattle.decided.proofs.is_decided.Tie as tie
 
 pub is-decided-spec : {M : Type 1} → statement M
 is-decided-spec =

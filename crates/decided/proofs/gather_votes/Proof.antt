@@ -1,4 +1,4 @@
--- `inbox::gather_votes` meets its contract: what was gathered and what is ahead make up what all messages say. Assumes nothing.
+-- `decided::gather_votes` meets its contract: what was gathered and what is ahead make up what all messages say. Assumes nothing.
 use Prim.Native.Nat.{_+_, _*_, _-_, _≤_}
 use mathlib.Core.Logic.{⊎-elim}
 use mathlib.Core.Path.{sym, _∙_}
@@ -6,12 +6,12 @@ use native.Mathlib.Omega.{arith}
 use borrow.Author.Needs.{needs}
 use Rattle.slots.specs.Table.Scan.{peekTable}
 use Rattle.slots.specs.View.Bytes.{leadingMessages}
 use Rattle.inbox.specs.Inbox.Slots.{ahead, ahead-unused, ahead-end}
 use Rattle.inbox.specs.Inbox.Votes.{tally, Counts, counts-start}
-use Rattle.inbox.proofs.Voting.{vote-next}
-use Rattle.inbox.proofs.Deciding.{rms-bound, some-low, flags-early, flags-end}
-use Rattle.inbox.proofs.gather_votes.Statement.{statement}
-use Rattle.inbox.proofs.gather_votes.Tie as tie
+use Rattle.decided.proofs.Voting.{vote-next}
+use Rattle.decided.proofs.Deciding.{rms-bound, some-low, flags-early, flags-end}
+use Rattle.decided.proofs.gather_votes.Statement.{statement}
+use Rattle.decided.proofs.gather_votes.Tie as tie
 
 abbrev Inv-loop : tie.InvT-loop
 Inv-loop plan inbox value some masks₀ count least flags₀ place₀ masks flags place =

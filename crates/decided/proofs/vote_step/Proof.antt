@@ -1,9 +1,9 @@
--- `inbox::vote_step` meets its contract: the branches decide whether the slot counts, and whether the set is a majority. Assumes nothing.
+-- `decided::vote_step` meets its contract: the branches decide whether the slot counts, and whether the set is a majority. Assumes nothing.
 use borrow.Author.Needs.{needs}
 use Rattle.inbox.specs.Inbox.Slots.{messageAt}
-use Rattle.inbox.proofs.Voting.{vote-map, vote-value, vote-rms, vote-taken, flag-bound, cell-bound}
-use Rattle.inbox.proofs.vote_step.Statement.{statement}
-use Rattle.inbox.proofs.vote_step.Tie as tie
+use Rattle.decided.proofs.Voting.{vote-map, vote-value, vote-rms, vote-taken, flag-bound, cell-bound}
+use Rattle.decided.proofs.vote_step.Statement.{statement}
+use Rattle.decided.proofs.vote_step.Tie as tie
 
 pub vote-step-spec : {M : Type 1} → statement M
 unfolding messageAt
