@@ -10,7 +10,7 @@ use Rattle.message.specs.Outcome.{accepted}
 use Rattle.change.specs.declared.Judged.{Judged}
 use Rattle.change.specs.declared.Judged.the-variants as Judgements
 use Rattle.change.specs.Change.{judgedOutcome}
-use Rattle.record.specs.Record.{Tables, tablesOf, zeroed, openJudged, openingOf, opened, recordOpen}
+use Rattle.opening.specs.Opening.{Tables, tablesOf, zeroed, openJudged, openingOf, opened, recordOpen}
 
 module _ (p : Plan) (t : Tables) (judged : Judged) (of-judged : judgedOutcome judged ≡ openJudged p t) where
   pub open-refused : (k : ℕ) → judged ≡ Judgements.Refused k → openingOf judged t ≡ recordOpen p t

@@ -8,7 +8,7 @@ use native.Mathlib.Numerals.{add-one}
 use native.Mathlib.Omega.{arith}
 use lib.ListN.{length, take, set, replicate, replicate-append-replicate}
 use lib.Seq.{take-suc-set, take-all}
-use Rattle.record.specs.Record.{zeroed}
+use Rattle.opening.specs.Opening.{zeroed}
 
 module _ (bytes : List ℕ) (i : ℕ) where
   pub clear-step : i < length bytes → take i bytes ≡ replicate i 0 → take (i + 1) (set bytes i 0) ≡ replicate (i + 1) 0

@@ -1,8 +1,8 @@
--- `record::open` meets its contract: rows 1 and 2, and then each table cleared. Assumes nothing.
+-- `opening::open` meets its contract: rows 1 and 2, and then each table cleared. Assumes nothing.
 use borrow.Author.Needs.{needs}
-use Rattle.record.proofs.Opening.{open-refused, open-cleared}
-use Rattle.record.proofs.open.Statement.{statement}
-use Rattle.record.proofs.open.Tie as tie
+use Rattle.opening.proofs.Opening.{open-refused, open-cleared}
+use Rattle.opening.proofs.open.Statement.{statement}
+use Rattle.opening.proofs.open.Tie as tie
 
 pub open-spec : {M : Type 1} → statement M
 open-spec =

@@ -1,12 +1,12 @@
--- `record::clear` meets its contract: the first `i` bytes are zeros. Assumes nothing.
+-- `opening::clear` meets its contract: the first `i` bytes are zeros. Assumes nothing.
 use Prim.Native.Nat.{_≤_, _-_}
 use mathlib.Core.Path.{_≡_, refl}
 use native.Mathlib.Omega.{arith}
 use lib.ListN.{length, take, replicate, length-set}
 use borrow.Author.Needs.{needs}
-use Rattle.record.proofs.Clearing.{clear-step, clear-end}
-use Rattle.record.proofs.clear.Statement.{statement}
-use Rattle.record.proofs.clear.Tie as tie
+use Rattle.opening.proofs.Clearing.{clear-step, clear-end}
+use Rattle.opening.proofs.clear.Statement.{statement}
+use Rattle.opening.proofs.clear.Tie as tie
 
 abbrev Inv-loop : tie.InvT-loop
 Inv-loop bytes₀ i₀ bytes i = (i ≤ length bytes) × (length bytes ≡ length bytes₀) × (take i bytes ≡ replicate i 0)

@@ -1,13 +1,13 @@
--- `record::are_lengths` meets its contract: each `return` decides one part of row 2. Assumes nothing.
+-- `opening::are_lengths` meets its contract: each `return` decides one part of row 2. Assumes nothing.
 use native.Mathlib.Omega.{arith}
 use borrow.Author.Tests.{eq-eqb, ne-eqb}
 use Rattle.message.proofs.Guards.{passed, failed}
 use Rattle.message.specs.Plan.Laws.{plan-bounds}
-use Rattle.acceptor.specs.Acceptor.Laws.{bytes-bound}
-use Rattle.record.specs.Record.{areLengths, inboxSize}
+use Rattle.votes.specs.Votes.Laws.{bytes-bound}
+use Rattle.opening.specs.Opening.{areLengths, inboxSize}
 use borrow.Author.Needs.{needs}
-use Rattle.record.proofs.are_lengths.Statement.{statement}
-use Rattle.record.proofs.are_lengths.Tie as tie
+use Rattle.opening.proofs.are_lengths.Statement.{statement}
+use Rattle.opening.proofs.are_lengths.Tie as tie
 
 pub are-lengths-spec : {M : Type 1} → statement M
 unfolding areLengths inboxSize
