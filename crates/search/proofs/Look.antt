@@ -48,13 +48,14 @@ module _ (t form : List ℕ) (k : ℕ) (h : k < length t / slotSize) where
         → locateFrom (k + 1) (drop (k + 1) (slots t)) form ≡ locateFrom k (drop k (slots t)) form
     locate-next e = locateFrom-next _ _ _ within in-use e
 
-  pub compared : length form ≡ slotSize → (a b c d r : ℕ)
-      → Word (getD t (k * slotSize) 0) (getD t (k * slotSize + 1) 0) 0 0 a
+  pub compared : length form ≡ slotSize → (map a b c d r : ℕ) → map ≡ getD t (k * slotSize) 0
+      → Word map (getD t (k * slotSize + 1) 0) 0 0 a
       → WordFrom t (k * slotSize + 2) b
       → Word (getD form 0 0) (getD form 1 0) 0 0 c
       → WordFrom form 2 d
       → eqb r 0 ≡ (eqb a c && eqb b d) → eqb r 0 ≡ sameBytes (getD (slots t) k []) form
-  compared n a b c d r of-a of-b of-c of-d e = rw (slot-six t k h, six form n) (word-compared of-a (simp add-assoc at of-b) of-c of-d r e)
+  compared n map a b c d r m of-a of-b of-c of-d e =
+      rw (slot-six t k h, six form n) (word-compared (rw m at of-a) (simp add-assoc at of-b) of-c of-d r e)
 
 and-zero-l : (x y : ℕ) → x ≡ 0 → bitAnd x y ≡ 0
 and-zero-l x y e = omega (arith, and-le-l x y)

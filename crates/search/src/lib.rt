@@ -105,13 +105,13 @@ fn skip(table: &[u8], form: &[u8; SLOT_SIZE], start: usize) -> usize
     place
 }
 
-// Whether the slot at a place has these six bytes.
-fn is_form(table: &[u8], place: usize, form: &[u8; SLOT_SIZE]) -> bool
-    requires { ⌜ (length (now form) ≡ slotSize) × (place < length (now table) / slotSize) ⌝ }
+// Whether the slot at a place, which begins with `map`, has these six bytes.
+fn is_form(table: &[u8], place: usize, map: u8, form: &[u8; SLOT_SIZE]) -> bool
+    requires { ⌜ (length (now form) ≡ slotSize) × (place < length (now table) / slotSize) × (map ≡ getD (now table) (place * slotSize) 0) ⌝ }
     ensures { λ r. ⌜ r ≡ sameBytes (getD (slots (now (table .entry))) place []) (now (form .entry)) ⌝ }
 {
     let from = place * SLOT_SIZE;
-    let front = word(table[from], table[from + 1], 0, 0);
+    let front = word(map, table[from + 1], 0, 0);
     let back = word_from(table, from + 2);
     let head = word(form[0], form[1], 0, 0);
     let tail = word(form[2], form[3], form[4], form[5]);
@@ -125,10 +125,11 @@ fn locate_form(table: &[u8], form: &[u8; SLOT_SIZE]) -> Place
     let count = table.len() / SLOT_SIZE;
     let mut place = 0;
     while place < count {
-        if table[place * SLOT_SIZE] == 0 {
+        let map = table[place * SLOT_SIZE];
+        if map == 0 {
             return Place::Free(place);
         }
-        if is_form(table, place, form) {
+        if is_form(table, place, map, form) {
             return Place::At(place);
         }
         place = skip(table, form, place + 1);

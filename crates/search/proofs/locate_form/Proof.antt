@@ -27,7 +27,7 @@ locate-form-spec =
     (λ c. search needs)
     (λ c. search needs)
     (λ c. sym (locate-free _ _ _ (c .before .before .loop-test .taken) (c .if1 .taken)) ∙ c .before .before .before .loop .inv .1)
-    (λ c κs. (c .before .before .before .before .before .pre, c .before .before .loop-test .taken))
+    (λ c κs. (c .before .before .before .before .before .pre, c .before .before .loop-test .taken, refl))
     (λ c. sym (locate-at _ _ _ (c .before .before .before .before .loop-test .taken) (c .before .before .if1 .left)
     (sym (c .before .is-form .ensures) ∙ c .if2 .taken))
     ∙ c .before .before .before .before .before .loop .inv .1)
