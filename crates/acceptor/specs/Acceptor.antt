@@ -1,17 +1,16 @@
 -- The step of an acceptor, kind 3 (document 01, "The plan and four tables", "The nine events" and "Refusals by place").
 --     voteAt                    the place of an instance's three bytes of an acceptor in Q: mbal, bal, val
---     isVoteState, areVotes     row 4
 --     acceptorJudged            rows 1, 2, 4 and 5: the plan and both tables
 --     voteOf                    the vote report of a last vote
 --     phase1b, phase2b          the two actions
 --     acceptorReceive, acceptorVerdict     rows 7 to 13: what an event changes, or its refusal
 --     acceptorStep              the whole call
--- Its laws are in Acceptor/Laws.antt, and what is judged in Acceptor/Sound.antt. Assumes nothing.
+-- Row 4 itself is `areVotes` of the crate `votes`. Laws are in Acceptor/Laws.antt, and what is judged in Acceptor/Sound.antt. Assumes nothing.
 pub mod Laws
 pub mod Sound
 use Prim.Native.Nat.{ℕ, _+_, _*_}
-use mathlib.Core.Bool.{Bool, true, not, _&&_, _||_, cond}
-use mathlib.Core.List.{List, [], _∷_}
+use mathlib.Core.Bool.{not, cond}
+use mathlib.Core.List.{List}
 use lib.Dec.{ltb, leb, eqb}
 use lib.ListN.{length, getD}
 use Rattle.message.specs.declared.Plan.{Plan}
@@ -23,6 +22,7 @@ use Rattle.message.specs.Outcome.{Outcome, accepted, refused, andThen, refuseIf
 use Rattle.message.specs.Plan.{isPlan}
 use Rattle.slots.specs.Table.{isTableLength, isTable}
 use Rattle.slots.specs.View.{View, viewTable, sending}
+use Rattle.votes.specs.Votes.{areVotes}
 use Rattle.change.specs.declared.Change.{Change}
 use Rattle.change.specs.declared.Sent.the-variants.{Slot}
 use Rattle.change.specs.declared.Update.the-variants.{Vote}
@@ -32,16 +32,6 @@ use Rattle.event.specs.Event.{kindOf, whoOf, slotNumber, isEvent}
 -- from byte 3 × (ins × A + acc): mbal, bal, val
 unfoldable pub voteAt : Plan → ℕ → ℕ → ℕ
 voteAt p ins acc = 3 * (ins * p .acceptors + acc)
-
--- val 1, 2, or 0 for no vote; with val 0, bal is 0
-unfoldable pub isVoteState : ℕ → ℕ → Bool
-isVoteState bal val = leb val 2 && (leb 1 val || eqb bal 0)
-
-unfoldable pub areVotes : List ℕ → Bool
-areVotes [] = true
-areVotes (mbal ∷ []) = true
-areVotes (mbal ∷ bal ∷ []) = true
-areVotes (mbal ∷ bal ∷ val ∷ votes) = isVoteState bal val && areVotes votes
 
 unfoldable pub acceptorJudged : Plan → List ℕ → List ℕ → Outcome (Unit {0})
 acceptorJudged p votes network =

@@ -1,6 +1,5 @@
 // The step of an acceptor, kind 3, as a call by itself: Phase1b and Phase2b of document 001. It is lent Q and N.
 //
-//     are_votes              row 4 of "Refusals by place", in votes.rt
 //     judge                  the plan and both tables
 //     evaluate, perform      what an event comes to, and that stored (see the crate change)
 //     step                   the whole call
@@ -8,9 +7,6 @@ ghost use mathlib.Core.Path.{_≡_};
 ghost use Rattle.slots.specs.View.Bytes.{viewBytes};
 ghost use Rattle.change.specs.Change.{verdictOutcome, judgedOutcome, stepOf, applied};
 ghost use Rattle.acceptor.specs.Acceptor.{acceptorJudged, voteOf, voteAt, phase1b, phase2b, acceptorReceive, acceptorVerdict, acceptorStep};
-
-mod votes;
-
 use change::Answer;
 use change::Change;
 use change::Judged;
@@ -22,7 +18,6 @@ use message::Plan;
 use message::Read;
 use message::Vote;
 use slots::Send;
-pub use votes::are_votes;
 
 // The vote report of a last vote: none where the value is 0.
 fn vote_of(bal: u8, val: u8) -> Vote
@@ -58,7 +53,7 @@ fn phase1b_of(plan: Plan, votes: &[u8], network: &[u8], acc: u8, ins: u8, ballot
         mbal: ballot,
         vote: vote_of(bal, val),
     };
-    let send = slots::send_message(plan, network, report);
+    let send = search::send_message(plan, network, report);
     match send {
         Send::Slot { slot, store } => Verdict::Accepted(Change {
             table: Update::Vote {
@@ -92,7 +87,7 @@ fn phase2b_of(
         return Verdict::Refused(12);
     }
     let vote = Message::Phase2b { ins, acc, bal, val };
-    let send = slots::send_message(plan, network, vote);
+    let send = search::send_message(plan, network, vote);
     match send {
         Send::Slot { slot, store } => Verdict::Accepted(Change {
             table: Update::Vote {
@@ -175,7 +170,7 @@ pub fn judge(plan: Plan, votes: &[u8], network: &[u8]) -> Judged
     if !slots::is_table_length(network.len()) {
         return Judged::Refused(2);
     }
-    if !are_votes(votes) {
+    if !votes::are_votes(votes) {
         return Judged::Refused(4);
     }
     if !tables::is_table(plan, network) {

@@ -35,7 +35,8 @@ use Rattle.event.specs.Event.{kindOf, whoOf, highOf, lowOf, isEvent}
 use Rattle.tcommit.specs.RmState.{prepared, committed, aborted}
 use Rattle.paxos_commit.specs.PaxosCommit.{State, Val, Message, phase2a, Commit, Abort}
 use Rattle.rm.specs.Rm.{areStates}
-use Rattle.acceptor.specs.Acceptor.{voteAt, areVotes}
+use Rattle.votes.specs.Votes.{areVotes}
+use Rattle.acceptor.specs.Acceptor.{voteAt}
 use Rattle.leader.specs.Leader.{owns}
 use Rattle.record.specs.Record.{Tables, tablesOf, inboxSize, inboxOf, withInbox}
 use Rattle.matching.specs.Reading.{isRM, isAcceptor, valOf, messageOf, setOf, rmStateOf, aStateOf}

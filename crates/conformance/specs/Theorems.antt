@@ -1,5 +1,5 @@
 -- Demand 2 on the record, for every plan, all tables and every event, and "the lowest number that applies is returned" for the event call and for
--- opening (document 01, "Refusals by place"). `recordStep` and `recordOpen` are what the contracts of `record::step` and `record::open` name.
+-- opening (document 01, "Refusals by place"). `recordStep` and `recordOpen` are what the contracts of `record::step` and `opening::open` name.
 --     record-answers     the answer is refused with k exactly where row k applies and none with a lower number does, and accepted exactly
 --                        where no row applies; row 12 is that the published action is not enabled, a leader's read from its own inbox
 --     record-keeps       a refused call leaves the four tables as they were

@@ -32,7 +32,8 @@ use Rattle.change.specs.declared.Judged.the-variants as Judgements
 use Rattle.change.specs.Change.{stepOf}
 use Rattle.quorum.specs.Quorum.{isQuorum, Distinct, AmongFirst}
 use Rattle.rm.specs.Rm.{areStates}
-use Rattle.acceptor.specs.Acceptor.{voteAt, areVotes}
+use Rattle.votes.specs.Votes.{areVotes}
+use Rattle.acceptor.specs.Acceptor.{voteAt}
 use Rattle.leader.specs.Leader.{owns}
 use Rattle.record.specs.Record.{Tables, tablesOf, inboxSize, inboxOf, withInbox, openingOf, recordStepOf}
 use Rattle.record.specs.Record.Parts as Parts

@@ -21,7 +21,8 @@ use Rattle.slots.specs.View.{sending}
 use Rattle.event.specs.Event.{slotNumber, whoLimit, areZero, areArguments, isEvent}
 use Rattle.change.specs.declared.Sent.the-variants.{Slot, Quiet}
 use Rattle.rm.specs.Rm.{areStates, rmJudged, rmChoose, rmReceiveDecision, rmReceive, rmKind, rmVerdict, rmStep}
-use Rattle.acceptor.specs.Acceptor.{voteAt, isVoteState, areVotes, voteOf, phase1b, phase2b, acceptorJudged, acceptorReceive, acceptorVerdict, acceptorStep}
+use Rattle.votes.specs.Votes.{isVoteState, areVotes}
+use Rattle.acceptor.specs.Acceptor.{voteAt, voteOf, phase1b, phase2b, acceptorJudged, acceptorReceive, acceptorVerdict, acceptorStep}
 use Rattle.quorum.specs.Quorum.{countAcceptors, isMajority, isQuorum}
 use Rattle.inbox.specs.Inbox.{any, is1b, is2a, is2b, higher, reportOf, highestReport, proposal, chosen, isChosen2b, decided, forAll, forSome}
 use Rattle.leader.specs.Leader.{owns, leaderJudged, receiptStore, receipt, phase1a, phase2aMessage, keepOwn, sendBoth, phase2a, sendOnly, decideSend, leaderKind, leaderVerdict, leaderStep}

@@ -231,7 +231,7 @@ fn run_open(
     if mode == 2 {
         return;
     }
-    let judged = record::open(plan, states, votes, network, inboxes);
+    let judged = opening::open(plan, states, votes, network, inboxes);
     say(b"open ");
     say_number(change::judged_number(judged) as u64);
     say_digest(states, votes, network, inboxes);

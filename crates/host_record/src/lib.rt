@@ -30,7 +30,7 @@ pub extern "C" fn paxos_commit_open(
         acceptors,
         leaders,
     };
-    change::judged_number(record::open(plan, states, votes, network, inboxes))
+    change::judged_number(opening::open(plan, states, votes, network, inboxes))
 }
 
 // The event call. Accepted: the slot of N where the sent message stands, or 65535 for quiet (kinds 2 and 4). Refused: 65536 and the

@@ -47,7 +47,7 @@ fn owns_ballot(plan: Plan, who: u8, ballot: u8) -> bool
 fn receipt_store(plan: Plan, inbox: &[u8], m: Message) -> Verdict
     ensures { λ r. ⌜ verdictOutcome r ≡ receiptStore (viewBytes plan (now (inbox .entry))) m ⌝ }
 {
-    let send = slots::send_message(plan, inbox, m);
+    let send = search::send_message(plan, inbox, m);
     match send {
         Send::Slot { slot: _, store } => Verdict::Accepted(Change {
             table: Update::Inbox(store),
@@ -89,7 +89,7 @@ fn receipt_of(plan: Plan, inbox: &[u8], m: Message) -> Verdict
 fn send_only(plan: Plan, network: &[u8], m: Message) -> Verdict
     ensures { λ r. ⌜ verdictOutcome r ≡ sendOnly (viewBytes plan (now (network .entry))) m ⌝ }
 {
-    let send = slots::send_message(plan, network, m);
+    let send = search::send_message(plan, network, m);
     match send {
         Send::Slot { slot, store } => Verdict::Accepted(Change {
             table: Update::Inbox(Store::Keep),
@@ -177,7 +177,7 @@ fn send_both(plan: Plan, inbox: &[u8], network: &[u8], m: Message, place: usize)
     requires { ⌜ Next (viewBytes plan (now inbox) .messages) m place ⌝ }
     ensures { λ r. ⌜ verdictOutcome r ≡ sendBoth (viewBytes plan (now (inbox .entry))) (viewBytes plan (now (network .entry))) m ⌝ }
 {
-    let send = slots::send_message(plan, network, m);
+    let send = search::send_message(plan, network, m);
     match send {
         Send::Slot { slot, store } => keep_own(plan, inbox, m, place, slot, store),
         Send::NoRoom => Verdict::Refused(13),
@@ -268,9 +268,9 @@ fn evaluate_kind(plan: Plan, inbox: &[u8], network: &[u8], event: &[u8], kind: u
         return phase2a_of(plan, inbox, network, who, high, low);
     }
     if kind == 7 {
-        return decide_send(plan, network, inbox::is_decided_all(plan, inbox, 1), 1);
+        return decide_send(plan, network, decided::is_decided_all(plan, inbox, 1), 1);
     }
-    decide_send(plan, network, inbox::is_decided_some(plan, inbox, 2), 2)
+    decide_send(plan, network, decided::is_decided_some(plan, inbox, 2), 2)
 }
 
 // What the event comes to: 1 for the plan, 7 where it is no event of a leader, then 8, 9, 10, 12, 13 or 14. It judges no table: in one that nobody judged the

@@ -26,7 +26,8 @@ use Rattle.slots.specs.Send.{messageAt}
 use Rattle.event.specs.Event.{kindOf, whoOf, slotNumber, isEvent}
 use Rattle.paxos_commit.specs.PaxosCommit as Source
 use Rattle.paxos_commit.specs.PaxosCommit.{Val, State}
-use Rattle.acceptor.specs.Acceptor.{voteAt, areVotes, voteOf}
+use Rattle.votes.specs.Votes.{areVotes}
+use Rattle.acceptor.specs.Acceptor.{voteAt, voteOf}
 use Rattle.matching.specs.Reading.{isRM, isAcceptor, isMajoritySet, valOf, setOf, aStateOf}
 use Rattle.matching.specs.Call.{Enabled, HasRoom, SlotUnused, SlotHolds}
 

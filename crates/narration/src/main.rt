@@ -7,7 +7,7 @@
 //     say_answer, say_row             what the call answered, and the states of all resource managers (document 01: weights)
 //     run_events, run, run_parts, narrate, read_input    as in the rehearsal
 //
-// The calls are `record::open`, `record::step` and `ending::ending_of`. Each function here is proved to be safe and to end; none has a
+// The calls are `opening::open`, `record::step` and `ending::ending_of`. Each function here is proved to be safe and to end; none has a
 // contract on what it prints. Assumes nothing of its own.
 ghost use mathlib.Core.Path.{_≡_};
 ghost use Prim.Native.Nat.{min};
@@ -319,7 +319,7 @@ fn run(
     inboxes: &mut [u8],
     events: &[u8],
 ) {
-    let number = change::judged_number(record::open(plan, states, votes, network, inboxes));
+    let number = change::judged_number(opening::open(plan, states, votes, network, inboxes));
     if number != 0 {
         say_refusal(number);
         say(b"\n");

@@ -6,7 +6,7 @@
 //     run, run_parts                  the record opened, on parts of buffers, and its last line
 //     rehearse, read_input            the plan and the events of what was read
 //
-// The calls are `record::open`, `record::step` and `ending::ending_of`. Each function here is proved to be safe and to end; none has a
+// The calls are `opening::open`, `record::step` and `ending::ending_of`. Each function here is proved to be safe and to end; none has a
 // contract on what it prints. Assumes nothing of its own.
 ghost use mathlib.Core.Path.{_≡_};
 ghost use Prim.Native.Nat.{min};
@@ -82,7 +82,7 @@ fn run(
     inboxes: &mut [u8],
     events: &[u8],
 ) {
-    let number = change::judged_number(record::open(plan, states, votes, network, inboxes));
+    let number = change::judged_number(opening::open(plan, states, votes, network, inboxes));
     if number != 0 {
         say_line(number);
         return;

@@ -34,7 +34,7 @@ fn choose(plan: Plan, network: &[u8], who: u8, state: u8, next: u8, val: u8) -> 
         bal: 0,
         val,
     };
-    let send = slots::send_message(plan, network, m);
+    let send = search::send_message(plan, network, m);
     match send {
         Send::Slot { slot, store } => Verdict::Accepted(Change {
             table: Update::State {

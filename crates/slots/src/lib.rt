@@ -2,11 +2,11 @@
 //
 //     is_table_length                  row 2 of "Refusals by place": whole slots, at most 1,024
 //     message_at                       the message in a slot, by the reader
-//     Place, locate_message, store_message   where a message stands or may be appended, and appending it
-//     Store, Send, send_message, apply_store   what sending a message comes to, decided before anything is stored
+//     Place, store_message             where a message stands or may be appended, and putting it there
+//     Store, Send, apply_store         what sending a message comes to, decided before anything is stored, and storing it
 //     set_byte                         a byte of a table
 //
-// A table is looked through in search.rt. Judging whole tables is the crate `tables`.
+// Looking for a message is the crate `search`, judging whole tables the crate `tables`.
 // What each of them means stands in specs/. No public function has a `requires`, and none looks past its table.
 ghost use mathlib.Core.Path.{_≡_};
 ghost use lib.ListN.{length, set};
@@ -15,15 +15,10 @@ ghost use Rattle.message.specs.Form.{slotOf};
 ghost use Rattle.message.specs.Codec.{readOutcome};
 ghost use Rattle.slots.specs.Table.Scan.{readUsed, readAt};
 ghost use Rattle.slots.specs.View.{storeBytes};
-ghost use Rattle.slots.specs.View.Bytes.{viewBytes};
-
-mod search;
-
 use message::Message;
 use message::Plan;
 use message::Read;
 use message::SLOT_SIZE;
-pub use search::locate_message;
 
 // The most slots that a table may have.
 pub const MAX_SLOTS: usize = 1024;
@@ -109,24 +104,6 @@ pub enum Store {
 pub enum Send {
     Slot { slot: usize, store: Store },
     NoRoom,
-}
-
-// Looks where the message stands or may be appended. It stores nothing yet: nothing is to be stored where an equal one stands.
-pub fn send_message(plan: Plan, table: &[u8], m: Message) -> Send
-    ensures { λ r. ⌜ r ≡ viewBytes plan (now (table .entry)) .send m ⌝ }
-{
-    let place = locate_message(plan, table, m);
-    match place {
-        Place::At(slot) => Send::Slot {
-            slot,
-            store: Store::Keep,
-        },
-        Place::Free(slot) => Send::Slot {
-            slot,
-            store: Store::Put { place: slot, m },
-        },
-        Place::Full => Send::NoRoom,
-    }
 }
 
 // Stores what a step decided to store.

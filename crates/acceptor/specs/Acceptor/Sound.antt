@@ -13,7 +13,8 @@ use Rattle.message.specs.Outcome.{accepted, refuseIf}
 use Rattle.message.specs.Outcome.Laws.{refuseIf-accepted}
 use Rattle.message.specs.Plan.{isPlan}
 use Rattle.slots.specs.Table.{isTableLength, isTable}
-use Rattle.acceptor.specs.Acceptor.{areVotes, acceptorJudged}
+use Rattle.votes.specs.Votes.{areVotes}
+use Rattle.acceptor.specs.Acceptor.{acceptorJudged}
 
 -- rows 1, 2, 4 and 5 do not apply
 pub record Sound (p : Plan) (votes network : List ℕ) : Type 0 where

@@ -16,7 +16,8 @@ use Rattle.message.specs.Rows.Laws.{Ruled, ruled-row, ruled-both, ruled-end}
 use Rattle.slots.specs.Table.{isTableLength, isTable}
 use Rattle.inbox.specs.Inbox.Quantifiers.{forAll-all, forAll-fails}
 use Rattle.rm.specs.Rm.{areStates, rmJudged}
-use Rattle.acceptor.specs.Acceptor.{areVotes, acceptorJudged}
+use Rattle.votes.specs.Votes.{areVotes}
+use Rattle.acceptor.specs.Acceptor.{acceptorJudged}
 use Rattle.leader.specs.Leader.{leaderJudged}
 use Rattle.record.specs.Record.{Tables, areLengths, areInboxes, recordJudged}
 use Rattle.conformance.specs.Record.{tableRows, rmTableRows, acceptorTableRows, leaderTableRows}

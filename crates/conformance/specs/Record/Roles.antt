@@ -24,7 +24,8 @@ use Rattle.event.specs.Event.{kindOf, whoOf, isEvent}
 use Rattle.inbox.specs.Inbox.{forAll}
 use Rattle.inbox.specs.Inbox.Quantifiers.{forAll-all, all-forAll}
 use Rattle.rm.specs.Rm.{areStates, rmJudged, rmVerdict, rmStep}
-use Rattle.acceptor.specs.Acceptor.{areVotes, acceptorJudged, acceptorVerdict, acceptorStep}
+use Rattle.votes.specs.Votes.{areVotes}
+use Rattle.acceptor.specs.Acceptor.{acceptorJudged, acceptorVerdict, acceptorStep}
 use Rattle.leader.specs.Leader.{leaderJudged, leaderVerdict, leaderStep}
 use Rattle.record.specs.Record.{Tables, inboxSize, inboxOf, areLengths, areInboxes, recordJudged, RecordStep, recordRefusal}
 use Rattle.record.specs.Record.{onStates, onVotes, onInbox, roleStep, settled, recordStep}

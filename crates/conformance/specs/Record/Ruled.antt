@@ -21,7 +21,7 @@ use Rattle.change.specs.declared.Sent.{Sent}
 use Rattle.event.specs.Event.{kindOf, whoOf, isEvent}
 use Rattle.inbox.specs.Inbox.Quantifiers.{forAll-all, forAll-fails}
 use Rattle.rm.specs.Rm.{areStates}
-use Rattle.acceptor.specs.Acceptor.{areVotes}
+use Rattle.votes.specs.Votes.{areVotes}
 use Rattle.record.specs.Record.{Tables, inboxSize, areLengths, areInboxes, recordJudged, RecordStep, roleStep, settled, recordStep}
 use Rattle.record.specs.Record.Laws.{Sound, Lengths, lengths, sound-of, inbox-whole}
 use Rattle.event.specs.Event.Laws.{leader-who}

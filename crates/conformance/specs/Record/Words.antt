@@ -24,8 +24,8 @@ use Rattle.event.specs.Event.Laws.{event-parts, rm-who, acceptor-who, leader-wh
 use Rattle.quorum.specs.Quorum.{isQuorum, Distinct, AmongFirst}
 use Rattle.quorum.specs.Quorum.Sets.{quorum-set, set-quorum}
 use Rattle.rm.specs.Rm.{areStates}
-use Rattle.acceptor.specs.Acceptor.{isVoteState, areVotes}
-use Rattle.acceptor.specs.Acceptor.Laws.{areVotes-at}
+use Rattle.votes.specs.Votes.{isVoteState, areVotes}
+use Rattle.votes.specs.Votes.Laws.{areVotes-at}
 use Rattle.leader.specs.Leader.{owns}
 use Rattle.record.specs.Record.{inboxSize, inboxOf, withInbox}
 use Rattle.record.specs.Record.Parts.{inboxOf-with, inboxOf-with-other}

@@ -31,8 +31,9 @@ use Rattle.change.specs.Change.Laws.{refused-keeps}
 use Rattle.event.specs.Event.{kindOf, whoOf, slotNumber, isEvent}
 use Rattle.event.specs.Event.Laws.{acceptor-who}
 use Rattle.paxos_commit.specs.PaxosCommit as Source
-use Rattle.acceptor.specs.Acceptor.{voteAt, isVoteState, areVotes, acceptorJudged, phase1b, phase2b, acceptorReceive, acceptorVerdict, acceptorStep}
-use Rattle.acceptor.specs.Acceptor.Laws.{areVotes-set}
+use Rattle.votes.specs.Votes.{isVoteState, areVotes}
+use Rattle.acceptor.specs.Acceptor.{voteAt, acceptorJudged, phase1b, phase2b, acceptorReceive, acceptorVerdict, acceptorStep}
+use Rattle.votes.specs.Votes.Laws.{areVotes-set}
 use Rattle.acceptor.specs.Acceptor.Sound.{Sound, sound, judged}
 use Rattle.matching.specs.Reading.{valOf, setOf, aStateOf}
 use Rattle.matching.specs.Call.{Accepted, Sends}

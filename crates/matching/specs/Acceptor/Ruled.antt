@@ -27,7 +27,8 @@ use Rattle.event.specs.Event.{kindOf, whoOf, slotNumber, isEvent}
 use Rattle.event.specs.Event.Laws.{acceptor-who}
 use Rattle.paxos_commit.specs.PaxosCommit as Source
 use Rattle.paxos_commit.specs.PaxosCommit.{AState, State, except₂}
-use Rattle.acceptor.specs.Acceptor.{voteAt, areVotes, acceptorJudged, phase1b, phase2b, acceptorReceive, acceptorVerdict, acceptorStep}
+use Rattle.votes.specs.Votes.{areVotes}
+use Rattle.acceptor.specs.Acceptor.{voteAt, acceptorJudged, phase1b, phase2b, acceptorReceive, acceptorVerdict, acceptorStep}
 use Rattle.matching.specs.Reading.{valOf, aStateOf}
 use Rattle.matching.specs.Call.{Enabled, HasRoom, SlotUnused, SlotHolds}
 use Rattle.matching.specs.Call.Laws.{member-at, slot-in-range, clash}

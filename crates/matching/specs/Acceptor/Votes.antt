@@ -23,8 +23,9 @@ use Rattle.message.specs.Outcome.Laws.{both}
 use Rattle.message.specs.Form.{isValue, isVote, isInRange}
 use Rattle.paxos_commit.specs.PaxosCommit as Source
 use Rattle.paxos_commit.specs.PaxosCommit.{Val, AState, initial, except₂}
-use Rattle.acceptor.specs.Acceptor.{voteAt, isVoteState, areVotes, voteOf}
-use Rattle.acceptor.specs.Acceptor.Laws.{areVotes-at}
+use Rattle.votes.specs.Votes.{isVoteState, areVotes}
+use Rattle.acceptor.specs.Acceptor.{voteAt, voteOf}
+use Rattle.votes.specs.Votes.Laws.{areVotes-at}
 use Rattle.matching.specs.Reading.{valOf, balOf, voteValOf, messageOf, voteStateOf, aStateOf}
 use Rattle.matching.specs.Acceptor.{reportOf}
 

@@ -20,7 +20,8 @@ use Rattle.slots.specs.Table.{isTableLength, isTable}
 use Rattle.inbox.specs.Inbox.Quantifiers.{forAll-all, all-forAll}
 use Rattle.rm.specs.Rm.{areStates, rmJudged}
 use Rattle.rm.specs.Rm.Laws as Rm
-use Rattle.acceptor.specs.Acceptor.{areVotes, acceptorJudged}
+use Rattle.votes.specs.Votes.{areVotes}
+use Rattle.acceptor.specs.Acceptor.{acceptorJudged}
 use Rattle.acceptor.specs.Acceptor.Sound as Acceptor
 use Rattle.leader.specs.Leader.{leaderJudged}
 use Rattle.leader.specs.Leader.Sound as Leader

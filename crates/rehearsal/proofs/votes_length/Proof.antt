@@ -1,7 +1,7 @@
 -- `rehearsal::votes_length` is safe: the product of two bytes fits. Assumes nothing.
 use native.Mathlib.Omega.{arith}
 use borrow.Author.Needs.{needs}
-use Rattle.acceptor.specs.Acceptor.Laws.{bytes-bound}
+use Rattle.votes.specs.Votes.Laws.{bytes-bound}
 use Rattle.rehearsal.proofs.votes_length.Statement.{statement}
 use Rattle.rehearsal.proofs.votes_length.Tie as tie
 

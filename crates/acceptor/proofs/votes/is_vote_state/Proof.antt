@@ -1,9 +1,0 @@
--- `acceptor::votes::is_vote_state` meets its contract: its tests are those of `isVoteState`. Assumes nothing.
-use Rattle.acceptor.specs.Acceptor.{isVoteState}
-use Rattle.message.proofs.Guards.{guards}
-use Rattle.acceptor.proofs.votes.is_vote_state.Statement.{statement}
-use Rattle.acceptor.proofs.votes.is_vote_state.Tie as tie
-
-pub is-vote-state-spec : {M : Type 1} → statement M
-unfolding isVoteState
-is-vote-state-spec = tie.close (tie.spec (λ c. search guards) (λ c. search guards) (λ c. search guards) (λ c. search guards))

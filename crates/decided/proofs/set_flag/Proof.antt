@@ -1,0 +1,10 @@
+-- `decided::set_flag` meets its contract: the bit is set by its value. Assumes nothing.
+use mathlib.Core.Path.{_∙_, ap}
+use lib.Bits.{bitOr}
+use borrow.Author.Needs.{needs}
+use Rattle.quorum.specs.Mask.Laws.{bit-value-32, or-insert}
+use Rattle.decided.proofs.set_flag.Statement.{statement}
+use Rattle.decided.proofs.set_flag.Tie as tie
+
+pub set-flag-spec : {M : Type 1} → statement M
+set-flag-spec = tie.close (tie.spec (λ c. search needs) (λ c. ap (bitOr (c .args .flags)) (bit-value-32 _ (c .pre)) ∙ or-insert _ _))

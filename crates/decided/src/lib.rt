@@ -1,0 +1,137 @@
+// Decided, as a leader reads it from its inbox, which was judged before: one pass over the inbox.
+//
+//     cell_of, set_flag, vote_step       a set of acceptors for each instance and ballot, and a flag for each instance that has a majority
+//     least_flags, gather_votes          the pass, up to where the flags suffice
+//     is_decided_all, is_decided_some    Decided(i, value) for all instances of the plan, and for some
+//
+// What each of them means stands in the specs/ of `inbox`. No public function has a `requires`, and none looks past the inbox.
+ghost use mathlib.Core.Bool.{true, _&&_, cond};
+ghost use mathlib.Core.Path.{_≡_};
+ghost use Prim.Native.Nat.{_+_, _*_, _≤_, _<_};
+ghost use lib.ListN.{length, replicate};
+ghost use Rattle.message.specs.Plan.{isPlan};
+ghost use Rattle.slots.specs.Table.{slotSize};
+ghost use Rattle.slots.specs.Table.Scan.{peekTable};
+ghost use Rattle.slots.specs.View.Bytes.{leadingMessages};
+ghost use Rattle.quorum.specs.Mask.{insertBit};
+ghost use Rattle.inbox.specs.Inbox.{decided, forAll, forSome};
+ghost use Rattle.inbox.specs.Inbox.Slots.{messageAt};
+ghost use Rattle.inbox.specs.Inbox.Votes.{tally, voteStep};
+ghost use Rattle.inbox.specs.Inbox.Bits.{quantify};
+use message::Plan;
+use message::SLOT_SIZE;
+
+// Where the set of acceptors of an instance and ballot stands.
+fn cell_of(ins: u8, bal: u8) -> usize
+    ensures { λ r. ⌜ (r ≡ 256 * ins + bal) × (bal < 256) ⌝ }
+{
+    256 * (ins as usize) + (bal as usize)
+}
+
+fn set_flag(flags: u32, ins: u8) -> u32
+    requires { ⌜ ins < 32 ⌝ }
+    ensures { λ r. ⌜ r ≡ insertBit flags ins ⌝ }
+{
+    flags | (1u32 << ins)
+}
+
+// One slot further: the acceptor of a 2b of the value joins the set of its instance and ballot, and where that becomes a majority the
+// instance's flag is set.
+fn vote_step(
+    plan: Plan,
+    inbox: &[u8],
+    at: usize,
+    value: u8,
+    masks: &mut [u8; 4096],
+    flags: u32,
+) -> u32
+    requires { ⌜ (isPlan plan ≡ true) × (at + slotSize ≤ length (now inbox)) ⌝ }
+    ensures { λ r. ⌜ tally (now (masks .exit)) r ≡ voteStep plan value (tally (now (masks .entry)) flags) (messageAt (now (inbox .entry)) at) ⌝ }
+{
+    if inbox[at] != 0x1B {
+        return flags;
+    }
+    if inbox[at + 4] != value {
+        return flags;
+    }
+    let ins = inbox[at + 1];
+    if plan.rms <= ins {
+        return flags;
+    }
+    let cell = cell_of(ins, inbox[at + 3]);
+    let mask = quorum::insert_bit(masks[cell], inbox[at + 2]);
+    masks[cell] = mask;
+    if quorum::is_majority(plan.acceptors, mask) {
+        return set_flag(flags, ins);
+    }
+    flags
+}
+
+// The least number that the flags have to come to, where `all` has every flag: some flag, or all.
+fn least_flags(some: bool, all: u32) -> u32
+    ensures { λ r. ⌜ r ≡ cond some 1 all ⌝ }
+{
+    if some { 1 } else { all }
+}
+
+// One pass that ends as soon as the flags suffice: they are never cleared.
+fn gather_votes(plan: Plan, inbox: &[u8], value: u8, some: bool, masks: &mut [u8; 4096]) -> bool
+    requires { ⌜ (isPlan plan ≡ true) × (now masks ≡ replicate 4096 0) ⌝ }
+    ensures { λ r. ⌜ r ≡ quantify some (plan .rms) (λ i. decided plan (leadingMessages (peekTable (now (inbox .entry)))) i value) ⌝ }
+{
+    let count = inbox.len() / SLOT_SIZE;
+    let least = least_flags(some, (1u32 << plan.rms) - 1);
+    let mut flags: u32 = 0;
+    let mut place = 0;
+    while place < count {
+        let at = place * SLOT_SIZE;
+        if inbox[at] == 0 {
+            return least <= flags;
+        }
+        let next = vote_step(plan, inbox, at, value, masks, flags);
+        if next != flags {
+            if least <= next {
+                return true;
+            }
+            flags = next;
+        }
+        place += 1;
+    }
+    least <= flags
+}
+
+// Whether Decided(i, value) for some instance of the plan, or for all. Without a message nothing is decided, and no set is made.
+fn is_decided(plan: Plan, inbox: &[u8], value: u8, some: bool) -> bool
+    requires { ⌜ isPlan plan ≡ true ⌝ }
+    ensures { λ r. ⌜ r ≡ quantify some (plan .rms) (λ i. decided plan (leadingMessages (peekTable (now (inbox .entry)))) i value) ⌝ }
+{
+    let count = inbox.len() / SLOT_SIZE;
+    if count == 0 {
+        return false;
+    }
+    if inbox[0] == 0 {
+        return false;
+    }
+    let mut masks = [0u8; 4096];
+    gather_votes(plan, inbox, value, some, &mut masks)
+}
+
+// Whether Decided(i, value) for all instances of the plan, in one pass.
+pub fn is_decided_all(plan: Plan, inbox: &[u8], value: u8) -> bool
+    ensures { λ r. ⌜ r ≡ (isPlan plan && forAll (plan .rms) (λ i. decided plan (leadingMessages (peekTable (now (inbox .entry)))) i value)) ⌝ }
+{
+    if !message::is_plan(plan) {
+        return false;
+    }
+    is_decided(plan, inbox, value, false)
+}
+
+// Whether Decided(i, value) for some instance of the plan, in one pass.
+pub fn is_decided_some(plan: Plan, inbox: &[u8], value: u8) -> bool
+    ensures { λ r. ⌜ r ≡ (isPlan plan && forSome (plan .rms) (λ i. decided plan (leadingMessages (peekTable (now (inbox .entry)))) i value)) ⌝ }
+{
+    if !message::is_plan(plan) {
+        return false;
+    }
+    is_decided(plan, inbox, value, true)
+}

@@ -1,0 +1,3 @@
+-- The four tables of an order record.
+--     Opening   their lengths, and opening them
+pub mod Opening

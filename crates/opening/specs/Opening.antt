@@ -1,0 +1,73 @@
+-- The four tables of an order record, their lengths and opening them (document 01, "The plan and four tables", and rows 1 and 2 of "Refusals by
+-- place").
+--     Tables, tablesOf                   W, Q, N and I
+--     inboxSize, areLengths              the bytes of each of the L equal parts of I; row 2
+--     openJudged                         rows 1 and 2
+--     zeroed, Opening, openingOf, opened, recordOpen     opening a record: every byte zero
+-- Assumes nothing.
+use Prim.Native.Nat.{ℕ, _*_, _/_, _%_}
+use mathlib.Core.Bool.{Bool, not, _&&_}
+use mathlib.Core.List.{List}
+use lib.Dec.{eqb}
+use lib.ListN.{length, replicate}
+use Rattle.message.specs.declared.Plan.{Plan}
+use Rattle.message.specs.Outcome.{Outcome, accepted, refused, refuseIf}
+use Rattle.message.specs.Plan.{isPlan}
+use Rattle.slots.specs.Table.{isTableLength}
+use Rattle.change.specs.declared.Judged.{Judged}
+use Rattle.change.specs.Change.{judgedOutcome}
+
+-- W, Q, N and I
+pub record Tables : Type 0 where
+  pub states : List ℕ
+  pub votes : List ℕ
+  pub network : List ℕ
+  pub inboxes : List ℕ
+
+-- the record of four tables
+abbrev pub tablesOf : List ℕ → List ℕ → List ℕ → List ℕ → Tables
+tablesOf states votes network inboxes = record { states = states; votes = votes; network = network; inboxes = inboxes }
+
+-- the bytes of each of the L equal parts of I
+unfoldable pub inboxSize : Plan → List ℕ → ℕ
+inboxSize p inboxes = length inboxes / p .leaders
+
+-- row 2: W has n bytes, Q 3 × n × A; N is whole slots, at most 1,024, and I is L equal parts of that sort
+unfoldable pub areLengths : Plan → Tables → Bool
+areLengths p t =
+    eqb (length (t .states)) (p .rms)
+    && eqb (length (t .votes)) (3 * (p .rms * p .acceptors))
+    && isTableLength (length (t .network))
+    && eqb (length (t .inboxes) % p .leaders) 0
+    && isTableLength (inboxSize p (t .inboxes))
+
+-- rows 1 and 2
+unfoldable pub openJudged : Plan → Tables → Outcome (Unit {0})
+openJudged p t =
+    refuseIf (not (isPlan p)) 1
+    (refuseIf (not (areLengths p t)) 2
+    (accepted tt))
+
+-- zeros, as many as there were bytes
+unfoldable pub zeroed : List ℕ → List ℕ
+zeroed bytes = replicate (length bytes) 0
+
+pub record Opening : Type 0 where
+  pub answer : Outcome (Unit {0})
+  pub tables : Tables
+
+-- the answer's enum and the four tables at exit
+abbrev pub openingOf : Judged → Tables → Opening
+openingOf judged t = record { answer = judgedOutcome judged; tables = t }
+
+-- every byte zero; a refusal leaves the tables as they were
+abbrev pub opened : Tables → Outcome (Unit {0}) → Opening
+opened t (accepted a) =
+    record {
+      answer = accepted a;
+      tables = tablesOf (zeroed (t .states)) (zeroed (t .votes)) (zeroed (t .network)) (zeroed (t .inboxes));
+    }
+opened t (refused number) = record { answer = refused number; tables = t }
+
+unfoldable pub recordOpen : Plan → Tables → Opening
+recordOpen p t = opened t (openJudged p t)
