@@ -181,7 +181,7 @@ fn run_step(role: u8, plan: Plan, table: &mut [u8], network: &mut [u8], event: &
     match role {
         0 => rm::step(plan, table, network, event),
         1 => acceptor::step(plan, table, network, event),
-        _ => leader::step(plan, table, network, event),
+        _ => leader_call::step(plan, table, network, event),
     }
 }
 
