@@ -180,7 +180,7 @@ fn say_write(plan: Plan, m: Message) {
 fn run_step(role: u8, plan: Plan, table: &mut [u8], network: &mut [u8], event: &[u8]) -> Answer {
     match role {
         0 => rm::step(plan, table, network, event),
-        1 => acceptor::step(plan, table, network, event),
+        1 => acceptor_call::step(plan, table, network, event),
         _ => leader_call::step(plan, table, network, event),
     }
 }
