@@ -1,15 +1,13 @@
-// The step of an acceptor, kind 3, as a call by itself: Phase1b and Phase2b of document 001. It is lent Q and N.
+// The step of an acceptor, kind 3, on tables that were judged: Phase1b and Phase2b of document 001. It is lent Q and N. The call by
+// itself, which judges the tables first, is the crate acceptor_call.
 //
-//     judge                  the plan and both tables
 //     evaluate, perform      what an event comes to, and that stored (see the crate change)
-//     step                   the whole call
 ghost use mathlib.Core.Path.{_≡_};
 ghost use Rattle.slots.specs.View.Bytes.{viewBytes};
-ghost use Rattle.change.specs.Change.{verdictOutcome, judgedOutcome, stepOf, applied};
-ghost use Rattle.acceptor.specs.Acceptor.{acceptorJudged, voteOf, voteAt, phase1b, phase2b, acceptorReceive, acceptorVerdict, acceptorStep};
+ghost use Rattle.change.specs.Change.{verdictOutcome, stepOf, applied};
+ghost use Rattle.acceptor.specs.Acceptor.{voteOf, voteAt, phase1b, phase2b, acceptorReceive, acceptorVerdict};
 use change::Answer;
 use change::Change;
-use change::Judged;
 use change::Sent;
 use change::Update;
 use change::Verdict;
@@ -155,38 +153,4 @@ pub fn perform(plan: Plan, votes: &mut [u8], network: &mut [u8], event: &[u8]) -
 {
     let verdict = evaluate(plan, votes, network, event);
     change::apply(plan, votes, network, verdict)
-}
-
-// The plan, the lengths, Q and N: 1, 2, 4 or 5.
-pub fn judge(plan: Plan, votes: &[u8], network: &[u8]) -> Judged
-    ensures { λ r. ⌜ judgedOutcome r ≡ acceptorJudged plan (now (votes .entry)) (now (network .entry)) ⌝ }
-{
-    if !message::is_plan(plan) {
-        return Judged::Refused(1);
-    }
-    if votes.len() != 3 * ((plan.rms as usize) * (plan.acceptors as usize)) {
-        return Judged::Refused(2);
-    }
-    if !slots::is_table_length(network.len()) {
-        return Judged::Refused(2);
-    }
-    if !votes::are_votes(votes) {
-        return Judged::Refused(4);
-    }
-    if !tables::is_table(plan, network) {
-        return Judged::Refused(5);
-    }
-    Judged::Sound
-}
-
-// The step: what `judge` refuses, and then as `perform`; a refusal changes no byte.
-pub fn step(plan: Plan, votes: &mut [u8], network: &mut [u8], event: &[u8]) -> Answer
-    ensures { λ r. ⌜ stepOf r (now (votes .exit)) (now (network .exit)) ≡
-        acceptorStep plan (now (votes .entry)) (now (network .entry)) (now (event .entry)) ⌝ }
-{
-    let judged = judge(plan, votes, network);
-    match judged {
-        Judged::Refused(number) => Answer::Refused(number),
-        Judged::Sound => perform(plan, votes, network, event),
-    }
 }

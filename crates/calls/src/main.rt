@@ -179,9 +179,9 @@ fn say_write(plan: Plan, m: Message) {
 // The step of the role; any number above 1 is a leader's.
 fn run_step(role: u8, plan: Plan, table: &mut [u8], network: &mut [u8], event: &[u8]) -> Answer {
     match role {
-        0 => rm::step(plan, table, network, event),
-        1 => acceptor::step(plan, table, network, event),
-        _ => leader::step(plan, table, network, event),
+        0 => rm_call::step(plan, table, network, event),
+        1 => acceptor_call::step(plan, table, network, event),
+        _ => leader_call::step(plan, table, network, event),
     }
 }
 

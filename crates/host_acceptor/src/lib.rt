@@ -24,5 +24,5 @@ pub extern "C" fn paxos_commit_acceptor_step(
         acceptors,
         leaders,
     };
-    host_code::answer_code(acceptor::step(plan, votes, network, event))
+    host_code::answer_code(acceptor_call::step(plan, votes, network, event))
 }

@@ -24,5 +24,5 @@ pub extern "C" fn paxos_commit_leader_step(
         acceptors,
         leaders,
     };
-    host_code::answer_code(leader::step(plan, inbox, network, event))
+    host_code::answer_code(leader_call::step(plan, inbox, network, event))
 }

@@ -24,5 +24,5 @@ pub extern "C" fn paxos_commit_rm_step(
         acceptors,
         leaders,
     };
-    host_code::answer_code(rm::step(plan, states, network, event))
+    host_code::answer_code(rm_call::step(plan, states, network, event))
 }

@@ -1,23 +1,21 @@
-// The step of a leader, kinds 4 to 8, as a call by itself: receipt, and Phase1a, Phase2a and Decide of document 001. It is lent one
-// inbox and N, and reads its conditions from that inbox alone (the crate inbox).
+// The step of a leader, kinds 4 to 8, on tables that were judged: receipt, and Phase1a, Phase2a and Decide of document 001. It is lent
+// one inbox and N, and reads its conditions from that inbox alone (the crate inbox). The call by itself, which judges the tables first,
+// is the crate leader_call.
 //
-//     judge                  the plan and both tables
 //     evaluate, perform      what an event comes to, and that stored (see the crate change)
-//     step                   the whole call
 ghost use mathlib.Core.Bool.{true};
 ghost use mathlib.Core.Path.{_≡_};
 ghost use Rattle.message.specs.Outcome.{andThen};
 ghost use Rattle.message.specs.Codec.{readOutcome};
 ghost use Rattle.message.specs.Plan.{isPlan};
 ghost use Rattle.slots.specs.View.Bytes.{viewBytes};
-ghost use Rattle.change.specs.Change.{verdictOutcome, judgedOutcome, stepOf, applied};
+ghost use Rattle.change.specs.Change.{verdictOutcome, stepOf, applied};
 ghost use Rattle.inbox.specs.Inbox.{proposal, decided};
-ghost use Rattle.leader.specs.Leader.{owns, leaderJudged, receiptStore, receipt, sendOnly, phase1a};
-ghost use Rattle.leader.specs.Leader.{keepOwn, sendBoth, phase2a, decideSend, leaderKind, leaderVerdict, leaderStep};
+ghost use Rattle.leader.specs.Leader.{owns, receiptStore, receipt, sendOnly, phase1a};
+ghost use Rattle.leader.specs.Leader.{keepOwn, sendBoth, phase2a, decideSend, leaderKind, leaderVerdict};
 ghost use Rattle.leader.specs.Leader.Own.{Next, Proposes};
 use change::Answer;
 use change::Change;
-use change::Judged;
 use change::Sent;
 use change::Update;
 use change::Verdict;
@@ -299,32 +297,4 @@ pub fn perform(plan: Plan, inbox: &mut [u8], network: &mut [u8], event: &[u8]) -
 {
     let verdict = evaluate(plan, inbox, network, event);
     change::apply(plan, inbox, network, verdict)
-}
-
-// The plan, the lengths, N and the inbox: 1, 2, 5 or 6.
-pub fn judge(plan: Plan, inbox: &[u8], network: &[u8]) -> Judged
-    ensures { λ r. ⌜ judgedOutcome r ≡ leaderJudged plan (now (inbox .entry)) (now (network .entry)) ⌝ }
-{
-    if !message::is_plan(plan) {
-        return Judged::Refused(1);
-    }
-    if !slots::is_table_length(inbox.len()) {
-        return Judged::Refused(2);
-    }
-    if !slots::is_table_length(network.len()) {
-        return Judged::Refused(2);
-    }
-    tables::judge(plan, network, 1, inbox)
-}
-
-// The step: what `judge` refuses, and then as `perform`; a refusal changes no byte.
-pub fn step(plan: Plan, inbox: &mut [u8], network: &mut [u8], event: &[u8]) -> Answer
-    ensures { λ r. ⌜ stepOf r (now (inbox .exit)) (now (network .exit)) ≡
-        leaderStep plan (now (inbox .entry)) (now (network .entry)) (now (event .entry)) ⌝ }
-{
-    let judged = judge(plan, inbox, network);
-    match judged {
-        Judged::Refused(number) => Answer::Refused(number),
-        Judged::Sound => perform(plan, inbox, network, event),
-    }
 }

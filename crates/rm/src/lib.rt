@@ -1,17 +1,15 @@
-// The step of a resource manager (document 01: a weight), kinds 0, 1 and 2, as a call by itself: RMPrepare, RMChooseToAbort,
-// RMRcvCommitMsg and RMRcvAbortMsg of document 001. It is lent W and N.
+// The step of a resource manager (document 01: a weight), kinds 0, 1 and 2, on tables that were judged: RMPrepare, RMChooseToAbort,
+// RMRcvCommitMsg and RMRcvAbortMsg of document 001. It is lent W and N. The call by itself, which judges the tables first, is the crate
+// rm_call.
 //
 //     are_states             row 3 of "Refusals by place"
-//     judge                  the plan and both tables
 //     evaluate, perform      what an event comes to, and that stored (see the crate change)
-//     step                   the whole call
 ghost use mathlib.Core.Path.{_≡_};
 ghost use Rattle.slots.specs.View.Bytes.{viewBytes};
-ghost use Rattle.change.specs.Change.{verdictOutcome, judgedOutcome, stepOf, applied};
-ghost use Rattle.rm.specs.Rm.{areStates, rmJudged, rmChoose, rmDecided, rmReceiveDecision, rmReceive, rmKind, rmVerdict, rmStep};
+ghost use Rattle.change.specs.Change.{verdictOutcome, stepOf, applied};
+ghost use Rattle.rm.specs.Rm.{areStates, rmChoose, rmDecided, rmReceiveDecision, rmReceive, rmKind, rmVerdict};
 use change::Answer;
 use change::Change;
-use change::Judged;
 use change::Sent;
 use change::Update;
 use change::Verdict;
@@ -165,38 +163,4 @@ pub fn are_states(states: &[u8]) -> bool
         i += 1;
     }
     true
-}
-
-// The plan, the lengths, W and N: 1, 2, 3 or 5.
-pub fn judge(plan: Plan, states: &[u8], network: &[u8]) -> Judged
-    ensures { λ r. ⌜ judgedOutcome r ≡ rmJudged plan (now (states .entry)) (now (network .entry)) ⌝ }
-{
-    if !message::is_plan(plan) {
-        return Judged::Refused(1);
-    }
-    if states.len() != plan.rms as usize {
-        return Judged::Refused(2);
-    }
-    if !slots::is_table_length(network.len()) {
-        return Judged::Refused(2);
-    }
-    if !are_states(states) {
-        return Judged::Refused(3);
-    }
-    if !tables::is_table(plan, network) {
-        return Judged::Refused(5);
-    }
-    Judged::Sound
-}
-
-// The step: what `judge` refuses, and then as `perform`; a refusal changes no byte.
-pub fn step(plan: Plan, states: &mut [u8], network: &mut [u8], event: &[u8]) -> Answer
-    ensures { λ r. ⌜ stepOf r (now (states .exit)) (now (network .exit)) ≡
-        rmStep plan (now (states .entry)) (now (network .entry)) (now (event .entry)) ⌝ }
-{
-    let judged = judge(plan, states, network);
-    match judged {
-        Judged::Refused(number) => Answer::Refused(number),
-        Judged::Sound => perform(plan, states, network, event),
-    }
 }

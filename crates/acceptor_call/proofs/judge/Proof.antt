@@ -1,14 +1,14 @@
--- `acceptor::judge` meets its contract: each `return` is one row of `acceptorJudged`. Assumes nothing.
+-- `acceptor_call::judge` meets its contract: each `return` is one row of `acceptorJudged`. Assumes nothing.
 use mathlib.Core.Bool.{not}
 use mathlib.Core.Path.{refl, ap}
 use native.Mathlib.Omega.{arith}
 use borrow.Author.Tests.{eq-eqb, ne-eqb}
 use Rattle.message.proofs.Guards.{told, halt, pass}
 use Rattle.acceptor.specs.Acceptor.{acceptorJudged}
 use Rattle.votes.specs.Votes.Laws.{bytes-bound}
 use borrow.Author.Needs.{needs}
-use Rattle.acceptor.proofs.judge.Statement.{statement}
-use Rattle.acceptor.proofs.judge.Tie as tie
+use Rattle.acceptor_call.proofs.judge.Statement.{statement}
+use Rattle.acceptor_call.proofs.judge.Tie as tie
 
 pub judge-spec : {M : Type 1} → statement M
 unfolding acceptorJudged

@@ -1,12 +1,12 @@
--- `rm::step` meets its contract: what was judged, and what was then performed. Assumes nothing.
+-- `rm_call::step` meets its contract: what was judged, and what was then performed. Assumes nothing.
 use mathlib.Core.Path.{sym, _∙_, ap}
 use Rattle.change.specs.Change.{judgedOutcome}
 use Rattle.change.proofs.Stepping.{step-refused}
 use Rattle.rm.specs.Rm.{rmStep}
 use Rattle.rm.proofs.Judging.{step-sound}
 use borrow.Author.Needs.{needs}
-use Rattle.rm.proofs.step.Statement.{statement}
-use Rattle.rm.proofs.step.Tie as tie
+use Rattle.rm_call.proofs.step.Statement.{statement}
+use Rattle.rm_call.proofs.step.Tie as tie
 
 pub step-spec : {M : Type 1} → statement M
 unfolding rmStep

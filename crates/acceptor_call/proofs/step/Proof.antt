@@ -1,12 +1,12 @@
--- `acceptor::step` meets its contract: what was judged, and what was then performed. Assumes nothing.
+-- `acceptor_call::step` meets its contract: what was judged, and what was then performed. Assumes nothing.
 use mathlib.Core.Path.{sym, _∙_, ap}
 use Rattle.change.specs.Change.{judgedOutcome}
 use Rattle.change.proofs.Stepping.{step-refused}
 use Rattle.acceptor.specs.Acceptor.{acceptorStep}
 use Rattle.acceptor.proofs.Judging.{step-sound}
 use borrow.Author.Needs.{needs}
-use Rattle.acceptor.proofs.step.Statement.{statement}
-use Rattle.acceptor.proofs.step.Tie as tie
+use Rattle.acceptor_call.proofs.step.Statement.{statement}
+use Rattle.acceptor_call.proofs.step.Tie as tie
 
 pub step-spec : {M : Type 1} → statement M
 unfolding acceptorStep

@@ -1,12 +1,12 @@
--- `leader::step` meets its contract: what was judged, and what was then performed. Assumes nothing.
+-- `leader_call::step` meets its contract: what was judged, and what was then performed. Assumes nothing.
 use mathlib.Core.Path.{sym, _∙_, ap}
 use Rattle.change.specs.Change.{judgedOutcome}
 use Rattle.change.proofs.Stepping.{step-refused}
 use Rattle.leader.specs.Leader.{leaderStep}
 use Rattle.leader.proofs.Judging.{step-sound}
 use borrow.Author.Needs.{needs}
-use Rattle.leader.proofs.step.Statement.{statement}
-use Rattle.leader.proofs.step.Tie as tie
+use Rattle.leader_call.proofs.step.Statement.{statement}
+use Rattle.leader_call.proofs.step.Tie as tie
 
 pub step-spec : {M : Type 1} → statement M
 unfolding leaderStep

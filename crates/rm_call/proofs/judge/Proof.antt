@@ -1,12 +1,12 @@
--- `rm::judge` meets its contract: each `return` is one row of `rmJudged`. Assumes nothing.
+-- `rm_call::judge` meets its contract: each `return` is one row of `rmJudged`. Assumes nothing.
 use mathlib.Core.Bool.{not}
 use mathlib.Core.Path.{refl, ap}
 use borrow.Author.Tests.{eq-eqb, ne-eqb}
 use Rattle.message.proofs.Guards.{told, halt, pass}
 use Rattle.rm.specs.Rm.{rmJudged}
 use borrow.Author.Needs.{needs}
-use Rattle.rm.proofs.judge.Statement.{statement}
-use Rattle.rm.proofs.judge.Tie as tie
+use Rattle.rm_call.proofs.judge.Statement.{statement}
+use Rattle.rm_call.proofs.judge.Tie as tie
 
 pub judge-spec : {M : Type 1} → statement M
 unfolding rmJudged

@@ -1,10 +1,10 @@
--- `leader::judge` meets its contract: each `return` is one row of `leaderJudged`, rows 5 and 6 together. Assumes nothing.
+-- `leader_call::judge` meets its contract: each `return` is one row of `leaderJudged`, rows 5 and 6 together. Assumes nothing.
 use mathlib.Core.Path.{_∙_}
 use Rattle.message.proofs.Guards.{passed, told, halt, pass}
 use Rattle.tables.specs.Tables.Laws.{areTables-one, tables-passed}
 use Rattle.leader.specs.Leader.{leaderJudged}
-use Rattle.leader.proofs.judge.Statement.{statement}
-use Rattle.leader.proofs.judge.Tie as tie
+use Rattle.leader_call.proofs.judge.Statement.{statement}
+use Rattle.leader_call.proofs.judge.Tie as tie
 
 pub judge-spec : {M : Type 1} → statement M
 unfolding leaderJudged
