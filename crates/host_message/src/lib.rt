@@ -5,7 +5,7 @@
 //
 // What the numbers mean stands in specs/Code.antt.
 ghost use Prim.Native.Nat.{_<_};
-ghost use mathlib.Core.List.{_∷_};
+ghost use mathlib.Core.List.{[], _∷_};
 ghost use mathlib.Core.Path.{_≡_};
 ghost use lib.ListN.{length, getD};
 ghost use Rattle.message.specs.Form.{mapLength, decode};
@@ -18,6 +18,15 @@ use message::Plan;
 use message::Read;
 use message::Vote;
 use message::Written;
+
+// The number of a 2b's bytes. Its four fields stand in pairs, and each pair is one load.
+fn pack_2b(ins: u8, acc: u8, bal: u8, val: u8) -> u64
+    ensures { λ r. ⌜ r ≡ packed (0 ∷ 0x1B ∷ ins ∷ acc ∷ 0 ∷ bal ∷ val ∷ 0 ∷ []) ⌝ }
+{
+    let first = ins as u64 + 256 * (acc as u64);
+    let second = bal as u64 + 256 * (val as u64);
+    0x1B00 + 65536 * first + 1099511627776 * second
+}
 
 // The number of a message's bytes: 0, the map, and ins, acc, mbal, bal and val, 0 for one that the message does not have. Each field is
 // read straight from its place.
@@ -39,7 +48,7 @@ fn message_code(bytes: &[u8]) -> u64
         return pack(0, 0x19, bytes[1], 0, 0, bytes[2], bytes[3], 0);
     }
     if map == 0x1B {
-        return pack(0, 0x1B, bytes[1], bytes[2], 0, bytes[3], bytes[4], 0);
+        return pack_2b(bytes[1], bytes[2], bytes[3], bytes[4]);
     }
     pack(0, 0x10, 0, 0, 0, 0, message::byte_at(bytes, 1), 0)
 }

@@ -1,12 +1,14 @@
 // The number that a slice is refused with by the reader (document 01, "Message bytes"), map by map.
 //
 //     refusal_1a, ..         a slice whose map is known: 16, 17 or 0
+//     is_count               a count of the plan
 //     message_refusal        any slice
 //
 // What it means stands in message/specs/.
 ghost use mathlib.Core.Path.{_≡_};
 ghost use lib.ListN.{getD};
 ghost use Rattle.message.specs.Outcome.{numberOf};
+ghost use Rattle.message.specs.Plan.{isCount};
 ghost use Rattle.message.specs.Codec.{readMessage};
 ghost use Rattle.message.specs.Codec.Laws.{formNumber};
 use message::Message;
@@ -119,35 +121,70 @@ fn refusal_decision(plan: Plan, map: u8, bytes: &[u8]) -> u8
     0
 }
 
+// Whether a count of the plan is from 1 to `most`.
+fn is_count(most: u8, count: u8) -> bool
+    ensures { λ r. ⌜ r ≡ isCount most count ⌝ }
+{
+    (1 <= count) & (count <= most)
+}
+
 // The refusal of a slice: 1, 15 (empty slice or unknown map), 16 (another length than the map's) or 17 (a field out of range), and 0 where
-// the slice is exactly one message.
+// the slice is exactly one message. The plan's counts are tested apart, with other tests between them: side by side the compiler joins them
+// into one test, which takes twice the steps.
 pub fn message_refusal(plan: Plan, bytes: &[u8]) -> u8
     ensures { λ r. ⌜ r ≡ numberOf (readMessage plan (now (bytes .entry))) ⌝ }
 {
-    if !message::is_plan(plan) {
+    if !is_count(16, plan.rms) {
         return 1;
     }
     if bytes.len() == 0 {
+        if !message::is_plan(plan) {
+            return 1;
+        }
         return 15;
     }
     let map = bytes[0];
+    if !is_count(7, plan.acceptors) {
+        return 1;
+    }
     if map == 0x09 {
+        if !is_count(4, plan.leaders) {
+            return 1;
+        }
         return refusal_1a(plan, map, bytes);
     }
     if map == 0x07 {
+        if !is_count(4, plan.leaders) {
+            return 1;
+        }
         return refusal_1b(plan, map, bytes);
     }
     if map == 0x1F {
+        if !is_count(4, plan.leaders) {
+            return 1;
+        }
         return refusal_1b_vote(plan, map, bytes);
     }
     if map == 0x19 {
+        if !is_count(4, plan.leaders) {
+            return 1;
+        }
         return refusal_2a(plan, map, bytes);
     }
     if map == 0x1B {
+        if !is_count(4, plan.leaders) {
+            return 1;
+        }
         return refusal_2b(plan, map, bytes);
     }
     if map == 0x10 {
+        if !is_count(4, plan.leaders) {
+            return 1;
+        }
         return refusal_decision(plan, map, bytes);
+    }
+    if !is_count(4, plan.leaders) {
+        return 1;
     }
     15
 }

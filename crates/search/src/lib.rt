@@ -3,6 +3,7 @@
 //     word, word_from, differ bytes as one number, so that a slot is compared in two steps and with one branch
 //     word_at, common         the first four bytes of a slot as one number; the bits that the map bytes of four slots share
 //     has_candidate, skip     four slots at a time, past those that are in use and begin otherwise
+//     next_window             the next slot to compare: of the same four, or of the next four with a candidate
 //     is_form, locate_form    whether a slot has these six bytes; the first such slot, or the first unused one
 //     locate_message          the same of a message
 //     send_message            the slot where a message stands or goes, decided before anything is stored
@@ -118,13 +119,41 @@ fn is_form(table: &[u8], place: usize, map: u8, form: &[u8; SLOT_SIZE]) -> bool
     differ(front, head, back, tail) == 0
 }
 
+// Where to look next: at the slots from `place` up to `stop` one by one.
+struct Window {
+    place: usize,
+    stop: usize,
+}
+
+// The same window while it has slots, else the next four slots of which one may be a candidate.
+fn next_window(table: &[u8], form: &[u8; SLOT_SIZE], w: Window) -> Window
+    requires { ⌜ (length (now form) ≡ slotSize) × (w .place ≤ length (now table) / slotSize) ⌝ }
+    ensures { λ r. ⌜ (w .place ≤ r .place) × (r .place ≤ length (now (table .entry)) / slotSize) ×
+        (locateFrom (r .place) (drop (r .place) (slots (now (table .entry)))) (now (form .entry)) ≡
+        locateFrom (w .place) (drop (w .place) (slots (now (table .entry)))) (now (form .entry))) ⌝ }
+{
+    if w.place < w.stop {
+        return w;
+    }
+    let place = skip(table, form, w.place);
+    Window {
+        place,
+        stop: place + 4,
+    }
+}
+
 fn locate_form(table: &[u8], form: &[u8; SLOT_SIZE]) -> Place
     requires { ⌜ length (now form) ≡ slotSize ⌝ }
     ensures { λ r. ⌜ r ≡ locate (now (table .entry)) (now (form .entry)) ⌝ }
 {
     let count = table.len() / SLOT_SIZE;
-    let mut place = 0;
-    while place < count {
+    let mut left = Window { place: 0, stop: 0 };
+    while left.place < count {
+        let w = next_window(table, form, left);
+        let place = w.place;
+        if count <= place {
+            return Place::Full;
+        }
         let map = table[place * SLOT_SIZE];
         if map == 0 {
             return Place::Free(place);
@@ -132,7 +161,10 @@ fn locate_form(table: &[u8], form: &[u8; SLOT_SIZE]) -> Place
         if is_form(table, place, map, form) {
             return Place::At(place);
         }
-        place = skip(table, form, place + 1);
+        left = Window {
+            place: place + 1,
+            stop: w.stop,
+        };
     }
     Place::Full
 }

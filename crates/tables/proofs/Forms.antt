@@ -11,7 +11,7 @@ use mathlib.Core.Path.{_≡_, refl, sym, _∙_, ap}
 use native.Mathlib.Decide.{decLe, ℕ-discrete}
 use native.Mathlib.Nat.{not-suc-le-zero}
 use native.Mathlib.Omega.{arith}
-use lib.Dec.{leb, ltb, eqb, leb·zero}
+use lib.Dec.{leb, ltb, eqb, leb·zero, lit≤}
 use lib.ListN.{length, getD, take, List·getD-map}
 use borrow.Author.Tests.{eq-eqb, ne-eqb, le-leb, lt-leb, lt-ltb, le-ltb, eqb-true, eqb-false, leb-true, not-true}
 use Rattle.message.specs.declared.Plan.{Plan}
@@ -102,13 +102,13 @@ within-below b n l m = rw (leb·zero b, lt-leb 255 (n - 1) (omega arith), lt-leb
     go (yes k) = rw (le-ltb b n k) (lt-leb (b - 0) (n - 1) (omega arith))
     go (no k) = rw (lt-ltb b n (omega arith)) (le-leb (b - 0) (n - 1) (omega arith))
 
-within-map : (m : ℕ) → isWithin m m 0 ≡ true
+within-most : (m : ℕ) → m ≤ 254 → isWithin 0 m 254 ≡ true
 unfolding isWithin
-within-map m = rw (le-leb m m (omega arith), le-leb (m - m) 0 (omega arith)) (go (leb 255 (m + 0)))
-  where
-    go : (b : Bool) → (b || true) ≡ true
-    go true = refl
-    go false = refl
+within-most m h = rw (leb·zero m) (le-leb (m - 0) 254 (omega arith))
+
+within-far : (m : ℕ) → 256 ≤ m → isWithin 0 m 254 ≡ false
+unfolding isWithin
+within-far m h = rw (leb·zero m) (lt-leb (m - 0) 254 (omega arith))
 
 within-other : (low m : ℕ) → low < 255 → (low ≡ m → ⊥) → isWithin low m 0 ≡ false
 unfolding isWithin
@@ -162,39 +162,42 @@ module _ (p : Plan) where
   unfolding mapLength mapLengths
   first-zero t e = isTable-first p t (ap mapLength e)
 
-  -- the lowest map byte of a row: the map, where it is known, else a byte of another row; nothing above it
+  -- the first bounds of a row: any map where it is known, else another byte alone
   rowMap : ℕ → Bool
   rowMap row =
-      eqb (bound (boundsOf p) (64 + row) 0) 0 && leb (bound (boundsOf p) row 0) 63
-      && cond (eqb (mapLength row) 0) (not (eqb (bound (boundsOf p) row 0) row)) (eqb (bound (boundsOf p) row 0) row)
+      cond (eqb (mapLength row) 0)
+      (eqb (bound (boundsOf p) (row + 1) 0) 0 && leb (bound (boundsOf p) row 0) 254 && not (eqb (bound (boundsOf p) row 0) row))
+      (eqb (bound (boundsOf p) (row + 1) 0) 254 && eqb (bound (boundsOf p) row 0) 0)
 
-  rows-map : below 64 rowMap ≡ true
+  rows-map : below 256 rowMap ≡ true
   unfolding below rowMap bound boundsOf putBounds putRow mapLength mapLengths
   rows-map = refl
 
-  row-at : (m : ℕ) → rowMap (m % 64) ≡ true
-  row-at m = below-at rowMap 64 (m % 64) rows-map (omega arith)
+  row-at : (m : ℕ) → rowMap (m % 256) ≡ true
+  row-at m = below-at rowMap 256 (m % 256) rows-map (omega arith)
 
-  unknown-map : (m : ℕ) → mapLength m ≡ 0 → isWithin (bound (boundsOf p) (m % 64) 0) m (bound (boundsOf p) (64 + m % 64) 0) ≡ false
+  unknown-map : (m : ℕ) → mapLength m ≡ 0 → isWithin (bound (boundsOf p) (m % 256) 0) m (bound (boundsOf p) (m % 256 + 1) 0) ≡ false
   unfolding rowMap
-  unknown-map m u = go (bound (boundsOf p) (m % 64) 0) (bound (boundsOf p) (64 + m % 64) 0) (row-at m)
+  unknown-map m u = go (bound (boundsOf p) (m % 256) 0) (bound (boundsOf p) (m % 256 + 1) 0) (ℕ-discrete (mapLength (m % 256)) 0) (row-at m)
     where
-      other : (low : ℕ) → Dec (mapLength (m % 64) ≡ 0) → low ≤ 63
-          → cond (eqb (mapLength (m % 64)) 0) (not (eqb low (m % 64))) (eqb low (m % 64)) ≡ true → isWithin low m 0 ≡ false
-      other low (yes z) l e =
-          within-other low m (omega arith)
-          (λ x. eqb-false low (m % 64) (not-true (eqb low (m % 64)) (rw (eq-eqb (mapLength (m % 64)) 0 z) at e)) (omega (arith, x, l)))
-      other low (no z) l e =
-          within-other low m (omega arith)
-          (λ x. z (ap mapLength (sym (eqb-true low (m % 64) (rw (ne-eqb (mapLength (m % 64)) 0 z) at e)) ∙ x) ∙ u))
+      other : (low span : ℕ) → (eqb span 0 && leb low 254 && not (eqb low (m % 256))) ≡ true → isWithin low m span ≡ false
+      other low span e =
+          let most : (eqb span 0 && leb low 254) ≡ true = both (eqb span 0 && leb low 254) (not (eqb low (m % 256))) e .0 in
+          let least : low ≤ 254 = leb-true low 254 (both (eqb span 0) (leb low 254) most .1) in
+          let differs : eqb low (m % 256) ≡ false = not-true (eqb low (m % 256)) (both (eqb span 0 && leb low 254) (not (eqb low (m % 256))) e .1) in
+          rw (eqb-true span 0 (both (eqb span 0) (leb low 254) most .0))
+          (within-other low m (omega (arith, least)) (λ x. eqb-false low (m % 256) differs (omega (arith, x, least))))
 
-      go : (low span : ℕ)
-          → (eqb span 0 && leb low 63 && cond (eqb (mapLength (m % 64)) 0) (not (eqb low (m % 64))) (eqb low (m % 64))) ≡ true
+      far : (low span : ℕ) → (mapLength (m % 256) ≡ 0 → ⊥) → (eqb span 254 && eqb low 0) ≡ true → isWithin low m span ≡ false
+      far low span z e =
+          rw (eqb-true span 254 (both (eqb span 254) (eqb low 0) e .0), eqb-true low 0 (both (eqb span 254) (eqb low 0) e .1))
+          (within-far m (elim (decLe 256 m) [ yes h ↦ h | no h ↦ absurd (z (ap mapLength (omega (arith, h)) ∙ u)) ]))
+
+      go : (low span : ℕ) → Dec (mapLength (m % 256) ≡ 0)
+          → cond (eqb (mapLength (m % 256)) 0) (eqb span 0 && leb low 254 && not (eqb low (m % 256))) (eqb span 254 && eqb low 0) ≡ true
           → isWithin low m span ≡ false
-      go low span e =
-          let most : (eqb span 0 && leb low 63) ≡ true = both (eqb span 0 && leb low 63) _ e .0 in
-          rw (eqb-true span 0 (both (eqb span 0) (leb low 63) most .0))
-          (other low (ℕ-discrete (mapLength (m % 64)) 0) (leb-true low 63 (both (eqb span 0) (leb low 63) most .1)) (both (eqb span 0 && leb low 63) _ e .1))
+      go low span (yes z) e = other low span (rw (eq-eqb (mapLength (m % 256)) 0 z) at e)
+      go low span (no z) e = far low span z (rw (ne-eqb (mapLength (m % 256)) 0 z) at e)
 
   module _ (e : isPlan p ≡ true) (b1 b2 b3 b4 b5 b6 b7 : ℕ) where
     ins : isWithin 0 b1 (p .rms - 1) ≡ ltb b1 (p .rms)
@@ -213,12 +216,12 @@ module _ (p : Plan) where
         readSlot readMessage refuseIf decode fieldsMessage isZero all isInRange isVote
     judged-known =
         knownMap Judged
-        (simp (e, range-used, within-map, ins, within-any, within-from, within-zero, and-assoc, and-true))
-        (simp (e, range-used, within-map, ins, acc, within-any, within-zero, and-assoc, and-true))
-        (simp (e, range-used, within-map, ins, acc, within-any, within-value, and-assoc, and-true))
-        (simp (e, range-used, within-map, ins, within-any, within-value, within-zero, and-assoc, and-true))
-        (simp (e, range-used, within-map, ins, acc, within-any, within-value, within-zero, and-assoc, and-true))
-        (simp (e, range-used, within-map, within-any, within-value, within-zero, and-assoc, and-true))
+        (simp (e, range-used, within-most 0x09 (lit≤ tt), ins, within-any, within-from, within-zero, and-assoc, and-true))
+        (simp (e, range-used, within-most 0x07 (lit≤ tt), ins, acc, within-any, within-zero, and-assoc, and-true))
+        (simp (e, range-used, within-most 0x1F (lit≤ tt), ins, acc, within-any, within-value, and-assoc, and-true))
+        (simp (e, range-used, within-most 0x19 (lit≤ tt), ins, within-any, within-value, within-zero, and-assoc, and-true))
+        (simp (e, range-used, within-most 0x1B (lit≤ tt), ins, acc, within-any, within-value, within-zero, and-assoc, and-true))
+        (simp (e, range-used, within-most 0x10 (lit≤ tt), within-any, within-value, within-zero, and-assoc, and-true))
 
     -- an unknown map: no bytes to read
     judged-none : (map : ℕ) → mapLength map ≡ 0 → Judged map

@@ -34,11 +34,11 @@ use zeros::is_zero;
 // A row of bounds is longer than a slot by the two bytes after it, which have no bounds, so that eight bytes are looked at together.
 const ROW_SIZE: usize = 8;
 
-// The lowest bytes are in so many rows, how far above them a byte may lie in as many after them. With 64 rows in one array, where 32 would
-// do, a slot costs a machine step less.
-const ROWS: usize = 64;
+// A row for each first byte of a slot, and one more. A map's lowest bytes are in its row, and how far above them a byte may lie in the next:
+// no known map follows another. With a row for each byte no remainder is taken, and both rows are found by one index.
+const ROWS: usize = 256;
 
-const BOUNDS: usize = 128;
+const BOUNDS: usize = 257;
 
 // The rows of a map, where the constant table knows it.
 fn put_row(
@@ -47,7 +47,6 @@ fn put_row(
     low: [u8; ROW_SIZE],
     span: [u8; ROW_SIZE],
 )
-    requires { ⌜ map < 64 ⌝ }
     ensures { λ _. ⌜ now (bounds .exit) ≡ putRow (now (bounds .entry)) map low span ⌝ }
 {
     if message::map_length(map) == 0 {
@@ -55,12 +54,12 @@ fn put_row(
     }
     let row = map as usize;
     bounds[row] = low;
-    bounds[ROWS + row] = span;
+    bounds[row + 1] = span;
 }
 
-// The bounds of a plan, where all were zeros. The lowest bytes: the map itself, 1 for a value and for the ballot of a 1a, else 0. How far
-// above them: up to the last instance and acceptor of the plan, 1 for a value, 255 for a ballot (254 in a 1a) and after the slot, and not
-// at all for the map and after the message. In the row of an unknown map the lowest byte is one that is looked up in another row.
+// The bounds of a plan, where all were zeros. The lowest bytes: 1 for a value and for the ballot of a 1a, else 0. How far above them: up to
+// the last instance and acceptor of the plan, 1 for a value, 255 for a ballot (254 in a 1a) and after the slot, not at all after the message.
+// A known map needs no bound, since it has the row. In the rows of an unknown map the first byte is bounded to another one.
 fn put_bounds(bounds: &mut [[u8; ROW_SIZE]; BOUNDS], plan: Plan)
     requires { ⌜ isPlan plan ≡ true ⌝ }
     ensures { λ _. ⌜ now (bounds .exit) ≡ putBounds plan (now (bounds .entry)) ⌝ }
@@ -71,38 +70,38 @@ fn put_bounds(bounds: &mut [[u8; ROW_SIZE]; BOUNDS], plan: Plan)
     put_row(
         bounds,
         0x09,
-        [0x09, 0, 1, 0, 0, 0, 0, 0],
-        [0, ins, 254, 0, 0, 0, 255, 255],
+        [0, 0, 1, 0, 0, 0, 0, 0],
+        [254, ins, 254, 0, 0, 0, 255, 255],
     );
     put_row(
         bounds,
         0x07,
-        [0x07, 0, 0, 0, 0, 0, 0, 0],
-        [0, ins, acc, 255, 0, 0, 255, 255],
+        [0, 0, 0, 0, 0, 0, 0, 0],
+        [254, ins, acc, 255, 0, 0, 255, 255],
     );
     put_row(
         bounds,
         0x1F,
-        [0x1F, 0, 0, 0, 0, 1, 0, 0],
-        [0, ins, acc, 255, 255, 1, 255, 255],
+        [0, 0, 0, 0, 0, 1, 0, 0],
+        [254, ins, acc, 255, 255, 1, 255, 255],
     );
     put_row(
         bounds,
         0x19,
-        [0x19, 0, 0, 1, 0, 0, 0, 0],
-        [0, ins, 255, 1, 0, 0, 255, 255],
+        [0, 0, 0, 1, 0, 0, 0, 0],
+        [254, ins, 255, 1, 0, 0, 255, 255],
     );
     put_row(
         bounds,
         0x1B,
-        [0x1B, 0, 0, 0, 1, 0, 0, 0],
-        [0, ins, acc, 255, 1, 0, 255, 255],
+        [0, 0, 0, 0, 1, 0, 0, 0],
+        [254, ins, acc, 255, 1, 0, 255, 255],
     );
     put_row(
         bounds,
         0x10,
-        [0x10, 1, 0, 0, 0, 0, 0, 0],
-        [0, 1, 0, 0, 0, 0, 255, 255],
+        [0, 1, 0, 0, 0, 0, 0, 0],
+        [254, 1, 0, 0, 0, 0, 255, 255],
     );
 }
 
@@ -153,10 +152,10 @@ fn add_four(
     table: &[u8],
     at: usize,
 ) -> Four
-    requires { ⌜ (row < 64) × (from + 4 ≤ 8) × (at + 4 ≤ length (now table)) ⌝ }
+    requires { ⌜ (row < 256) × (from + 4 ≤ 8) × (at + 4 ≤ length (now table)) ⌝ }
     ensures { λ r. ⌜ isClear r ≡ (isClear seen && fourWithin (now (bounds .entry)) row from (now (table .entry)) at) ⌝ }
 {
-    let span = ROWS + row;
+    let span = row + 1;
     Four {
         b0: lane(seen.b0, bounds[row][from], table[at], bounds[span][from]),
         b1: lane(

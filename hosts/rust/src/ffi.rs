@@ -103,9 +103,9 @@ unsafe extern "C" {
 
 #[cfg(feature = "message")]
 #[inline]
-pub fn read(plan: Plan, bytes: &[u8]) -> [u8; 8] {
+pub fn read(plan: Plan, bytes: &[u8]) -> u64 {
     // SAFETY: `bytes` is a slice.
-    unsafe { paxos_commit_read(plan.rms, plan.acceptors, plan.leaders, bytes.as_ptr(), bytes.len()) }.to_le_bytes()
+    unsafe { paxos_commit_read(plan.rms, plan.acceptors, plan.leaders, bytes.as_ptr(), bytes.len()) }
 }
 
 #[cfg(feature = "message")]

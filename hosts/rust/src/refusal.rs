@@ -73,11 +73,29 @@ impl Refusal {
     }
 
     /// The refusal with this number; `None` for 0 and for numbers above 17.
+    #[inline]
     pub const fn from_number(number: u8) -> Option<Refusal> {
-        match number {
-            1..=17 => Some(Refusal::ALL[number as usize - 1]),
-            _ => None,
-        }
+        // One arm for each, since the compiler sees then that a refusal is its number.
+        Some(match number {
+            1 => Refusal::Plan,
+            2 => Refusal::Lengths,
+            3 => Refusal::States,
+            4 => Refusal::Votes,
+            5 => Refusal::Network,
+            6 => Refusal::Inboxes,
+            7 => Refusal::Event,
+            8 => Refusal::Slot,
+            9 => Refusal::Role,
+            10 => Refusal::Ballot,
+            11 => Refusal::Contradiction,
+            12 => Refusal::NotEnabled,
+            13 => Refusal::NetworkFull,
+            14 => Refusal::InboxFull,
+            15 => Refusal::Map,
+            16 => Refusal::Length,
+            17 => Refusal::Field,
+            _ => return None,
+        })
     }
 }
 

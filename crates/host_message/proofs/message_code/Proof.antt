@@ -58,11 +58,11 @@ message-code-spec =
     (λ c. within (c .before .before .before .before .before .before .before .before .before .before .before .pre ∙ ap mapLength (sym
     (c .before .before .before .before .before .before .before .before .before .byte-at .ensures) ∙ c .before .before .before .before .if5 .taken)) (lit< tt))
     (λ c κs. tt)
-    (λ c. c .pack5 .ensures ∙ code-known 0x1B _ (sym (c .before .before .before .before .before .before .before .before .before .before .byte-at .ensures)
+    (λ c. c .pack-2b .ensures ∙ code-known 0x1B _ (sym (c .before .before .before .before .before .before .before .before .before .before .byte-at .ensures)
     ∙ c .before .before .before .before .before .if5 .taken))
     (λ c κs. tt)
     (λ c κs. tt)
-    (λ c. c .pack6 .ensures ∙ rw (c .before .byte-at2 .ensures) (code-other _ (λ e. c .before .before .before .before .before .before .if1 .left
+    (λ c. c .pack5 .ensures ∙ rw (c .before .byte-at2 .ensures) (code-other _ (λ e. c .before .before .before .before .before .before .if1 .left
     (c .before .before .before .before .before .before .before .byte-at .ensures ∙ e)) (λ e. c .before .before .before .before .before .if2 .left
     (c .before .before .before .before .before .before .before .byte-at .ensures ∙ e)) (λ e. c .before .before .before .before .if3 .left
     (c .before .before .before .before .before .before .before .byte-at .ensures ∙ e)) (λ e. c .before .before .before .if4 .left
