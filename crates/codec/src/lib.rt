@@ -1,25 +1,21 @@
 // The reader and the writer (document 01, "Message bytes"): from a slice to the message that it is, and back.
 //
 //     decode_message                 the message that the bytes of a known map make
-//     message_refusal                the number that a slice is refused with, 0 where it is one message (refusal.rt)
 //     read_message, read_refusal     the reader
 //     write_message                  the writer
 //
-// What each of them means stands in message/specs/, with the byte form and its theorems.
+// What each of them means stands in message/specs/, with the byte form and its theorems. The number that a slice is refused with is told by
+// the crate refusal.
 ghost use mathlib.Core.Path.{_≡_};
 ghost use Rattle.message.specs.Outcome.{numberOf};
 ghost use Rattle.message.specs.Form.{fieldsMessage, decode};
 ghost use Rattle.message.specs.Codec.{readOutcome, readMessage, writeMessage};
-
-mod refusal;
-
 use message::Message;
 use message::Plan;
 use message::Read;
 use message::SLOT_SIZE;
 use message::Vote;
 use message::Written;
-pub use refusal::message_refusal;
 
 // The message that a known map and the five bytes after it make.
 fn fields_message(map: u8, b1: u8, b2: u8, b3: u8, b4: u8, b5: u8) -> Message
@@ -80,7 +76,7 @@ pub fn decode_message(bytes: &[u8]) -> Message
 pub fn read_message(plan: Plan, bytes: &[u8]) -> Read
     ensures { λ r. ⌜ readOutcome r ≡ readMessage plan (now (bytes .entry)) ⌝ }
 {
-    let number = message_refusal(plan, bytes);
+    let number = refusal::message_refusal(plan, bytes);
     if number != 0 {
         return Read::Refused(number);
     }

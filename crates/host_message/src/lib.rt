@@ -64,7 +64,7 @@ pub extern "C" fn paxos_commit_read(rms: u8, acceptors: u8, leaders: u8, bytes: 
         acceptors,
         leaders,
     };
-    let number = codec::message_refusal(plan, bytes);
+    let number = refusal::message_refusal(plan, bytes);
     if number != 0 {
         return number as u64;
     }

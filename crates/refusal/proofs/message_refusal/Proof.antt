@@ -1,4 +1,4 @@
--- `codec::refusal::message_refusal` meets its contract: each `return` is one case of the reader's laws. Assumes nothing.
+-- `refusal::message_refusal` meets its contract: each `return` is one case of the reader's laws. Assumes nothing.
 use mathlib.Core.Path.{refl, sym, _∙_, ap}
 use borrow.Author.Tests.{eqb-false}
 use borrow.Author.Needs.{needs}
@@ -7,9 +7,9 @@ use Rattle.message.specs.Form.{mapLength, mapLengths, fieldsMessage}
 use Rattle.message.specs.Form.Laws.{mapLength-unknown}
 use Rattle.message.specs.Codec.Laws.{readMessage-plan, readMessage-empty, readNumber-map, readNumber-unknown}
 use Rattle.message.proofs.Guards.{passed, failed}
-use Rattle.codec.proofs.Counts.{plan-rms, plan-acceptors, plan-leaders, plan-counts}
-use Rattle.codec.proofs.refusal.message_refusal.Statement.{statement}
-use Rattle.codec.proofs.refusal.message_refusal.Tie as tie
+use Rattle.refusal.proofs.Counts.{plan-rms, plan-acceptors, plan-leaders, plan-counts}
+use Rattle.refusal.proofs.message_refusal.Statement.{statement}
+use Rattle.refusal.proofs.message_refusal.Tie as tie
 
 pub message-refusal-spec : {M : Type 1} → statement M
 unfolding mapLength mapLengths fieldsMessage

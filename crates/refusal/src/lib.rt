@@ -1,8 +1,10 @@
-// The number that a slice is refused with by the reader, map by map.
+// The number that a slice is refused with by the reader (document 01, "Message bytes"), map by map.
 //
 //     refusal_1a, ..         a slice whose map is known: 16, 17 or 0
 //     is_count               a count of the plan
 //     message_refusal        any slice
+//
+// What it means stands in message/specs/.
 ghost use mathlib.Core.Path.{_≡_};
 ghost use lib.ListN.{getD};
 ghost use Rattle.message.specs.Outcome.{numberOf};

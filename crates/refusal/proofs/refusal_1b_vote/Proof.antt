@@ -1,15 +1,15 @@
--- `codec::refusal::refusal_2b` meets its contract: the length is the table's entry, and each branch decides one field. Assumes nothing.
+-- `refusal::refusal_1b_vote` meets its contract: the length is the table's entry, and each branch decides one field. Assumes nothing.
 use mathlib.Core.Path.{_∙_, sym, ap}
 use lib.Dec.{lit<}
-use Rattle.message.specs.Form.{isInRange, mapLength, mapLengths}
+use Rattle.message.specs.Form.{isInRange, mapLength, mapLengths, isVote}
 use Rattle.message.specs.Codec.Laws.{formNumber-length, formNumber-range, formNumber-none}
 use Rattle.message.proofs.Guards.{guards, passed, failed, within}
-use Rattle.codec.proofs.refusal.refusal_2b.Statement.{statement}
-use Rattle.codec.proofs.refusal.refusal_2b.Tie as tie
+use Rattle.refusal.proofs.refusal_1b_vote.Statement.{statement}
+use Rattle.refusal.proofs.refusal_1b_vote.Tie as tie
 
-pub refusal-2b-spec : {M : Type 1} → statement M
-unfolding isInRange mapLength mapLengths
-refusal-2b-spec =
+pub refusal-1b-vote-spec : {M : Type 1} → statement M
+unfolding isInRange mapLength mapLengths isVote
+refusal-1b-vote-spec =
     tie.close
     (tie.spec
     (λ c κs. tt)

@@ -1,11 +1,11 @@
--- `codec::refusal::refusal_decision` meets its contract: the length is the table's entry, and each branch decides one field. Assumes nothing.
+-- `refusal::refusal_decision` meets its contract: the length is the table's entry, and each branch decides one field. Assumes nothing.
 use mathlib.Core.Path.{_∙_, sym, ap}
 use lib.Dec.{lit<}
 use Rattle.message.specs.Form.{isInRange, mapLength, mapLengths}
 use Rattle.message.specs.Codec.Laws.{formNumber-length, formNumber-range, formNumber-none}
 use Rattle.message.proofs.Guards.{guards, passed, failed, within}
-use Rattle.codec.proofs.refusal.refusal_decision.Statement.{statement}
-use Rattle.codec.proofs.refusal.refusal_decision.Tie as tie
+use Rattle.refusal.proofs.refusal_decision.Statement.{statement}
+use Rattle.refusal.proofs.refusal_decision.Tie as tie
 
 pub refusal-decision-spec : {M : Type 1} → statement M
 unfolding isInRange mapLength mapLengths
