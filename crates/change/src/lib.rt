@@ -7,7 +7,8 @@
 //     apply                               stores the change and answers
 //     Judged, judged_number               whether a plan and tables are sound, or the refusal's number
 //
-// What each of them means stands in specs/Change.antt. Each role's crate has four functions over these:
+// What each of them means stands in specs/Change.antt. A role has four functions over these, `evaluate` and `perform` in its own crate and
+// the other two in that of its own call (`rm_call`, `acceptor_call`, `leader_call`):
 //     judge       the rows of "Refusals by place" that judge the plan and the tables
 //     evaluate    what an event comes to, from tables that are only read
 //     perform     `evaluate`, and its change stored

@@ -1,4 +1,4 @@
-// Decided, as a leader reads it from its inbox, which was judged before: one pass over the inbox.
+// Decided, as a leader reads it from its inbox: one pass over the inbox, whether it was judged or not.
 //
 //     cell_of, set_flag, vote_step       a set of acceptors for each instance and ballot, and a flag for each instance that has a majority
 //     least_flags, gather_votes          the pass, up to where the flags suffice

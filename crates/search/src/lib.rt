@@ -1,4 +1,4 @@
-// Looking for a message in a table that was judged before, and what sending one comes to.
+// Looking for a message in a table, and what sending one comes to. In a table that nobody judged it looks at the bytes alike.
 //
 //     word, word_from, differ bytes as one number, so that a slot is compared in two steps and with one branch
 //     word_at, common         the first four bytes of a slot as one number; the bits that the map bytes of four slots share
@@ -169,7 +169,7 @@ fn locate_form(table: &[u8], form: &[u8; SLOT_SIZE]) -> Place
     Place::Full
 }
 
-// The first slot where an equal message stands, else the first unused slot, in one pass up to it.
+// The first slot where an equal message stands, else the first unused slot, in one pass up to it; or that there is no room.
 pub fn locate_message(plan: Plan, table: &[u8], m: Message) -> Place
     ensures { λ r. ⌜ r ≡ locate (now (table .entry)) (slotOf plan m) ⌝ }
 {

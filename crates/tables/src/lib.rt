@@ -2,8 +2,10 @@
 //
 //     zeros::is_zero         whether a part is zeros alone, in one pass without a branch (zeros.rt)
 //     put_row, put_bounds    for each map the lowest byte at each place of a slot, and how far above it a byte may lie
+//     over, distance, lane   a byte beside its bounds
 //     add_four, add_slot     a slot's bytes beside the bounds of its map, eight at a time
-//     edge, are_forms        where the used slots end, and whether each of them holds a message
+//     next_edge, edge        where the used slots end
+//     followed, last_slot, are_forms     whether each of them holds a message; the last slot of a table has no bytes after it
 //     is_table_within, are_tables     a table, and so many equal parts, by bounds that were made
 //     is_table               row 5 of "Refusals by place" for N alone
 //     judge                  rows 5 and 6 for N and the inboxes, and row 1 before them
@@ -358,7 +360,7 @@ fn are_tables(plan: Plan, bounds: &[[u8; ROW_SIZE]; BOUNDS], parts: usize, table
     true
 }
 
-// The plan, N, and the inboxes as so many equal parts: 1, 5 or 6. All share one pair of bounds. Lengths are the caller's to judge: bytes
+// The plan, N, and the inboxes as so many equal parts: 1, 5 or 6. All share the same bounds. Lengths are the caller's to judge: bytes
 // after the last whole slot or part are not looked at, and of no parts none is.
 pub fn judge(plan: Plan, network: &[u8], parts: usize, inboxes: &[u8]) -> Judged
     ensures { λ r. ⌜ judgedOutcome r ≡ tablesJudged plan (now (network .entry)) parts (now (inboxes .entry)) ⌝ }

@@ -1,6 +1,5 @@
 -- What an accepted step of a resource manager sets.
 --     Took, took            an accepted step: the tables were sound, the event is one of kinds 0 to 2, and this is its change
---     choose-takes, receive-takes     the change by kind
 --     choose-acts, receive-acts       the published action, the sent message, the one byte of W
 --     sound-after           well-formed tables stay so
 -- Assumes nothing.
