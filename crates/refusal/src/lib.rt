@@ -1,14 +1,16 @@
 // The number that a slice is refused with by the reader (document 01, "Message bytes"), map by map.
 //
 //     refusal_1a, ..         a slice whose map is known: 16, 17 or 0
-//     is_count               a count of the plan
+//     map_refusal            a slice that is not empty, under a plan in range
 //     message_refusal        any slice
 //
 // What it means stands in message/specs/.
+ghost use Prim.Native.Nat.{_<_};
+ghost use mathlib.Core.Bool.{true};
 ghost use mathlib.Core.Path.{_≡_};
-ghost use lib.ListN.{getD};
+ghost use lib.ListN.{length, getD};
 ghost use Rattle.message.specs.Outcome.{numberOf};
-ghost use Rattle.message.specs.Plan.{isCount};
+ghost use Rattle.message.specs.Plan.{isCount, isPlan};
 ghost use Rattle.message.specs.Codec.{readMessage};
 ghost use Rattle.message.specs.Codec.Laws.{formNumber};
 use message::Message;
@@ -121,6 +123,36 @@ fn refusal_decision(plan: Plan, map: u8, bytes: &[u8]) -> u8
     0
 }
 
+// The refusal of a slice that is not empty, under a plan in range: 15 (unknown map), 16, 17 or 0. The maps are in two groups of three: of
+// more tests of one byte the compiler makes a jump by a table, which takes longer.
+fn map_refusal(plan: Plan, map: u8, bytes: &[u8]) -> u8
+    requires { ⌜ (isPlan plan ≡ true) × (0 < length (now bytes)) × (map ≡ getD (now bytes) 0 0) ⌝ }
+    ensures { λ r. ⌜ r ≡ numberOf (readMessage plan (now (bytes .entry))) ⌝ }
+{
+    if map < 0x19 {
+        if map == 0x09 {
+            return refusal_1a(plan, map, bytes);
+        }
+        if map == 0x07 {
+            return refusal_1b(plan, map, bytes);
+        }
+        if map == 0x10 {
+            return refusal_decision(plan, map, bytes);
+        }
+        return 15;
+    }
+    if map == 0x19 {
+        return refusal_2a(plan, map, bytes);
+    }
+    if map == 0x1B {
+        return refusal_2b(plan, map, bytes);
+    }
+    if map == 0x1F {
+        return refusal_1b_vote(plan, map, bytes);
+    }
+    15
+}
+
 // Whether a count of the plan is from 1 to `most`.
 fn is_count(most: u8, count: u8) -> bool
     ensures { λ r. ⌜ r ≡ isCount most count ⌝ }
@@ -129,8 +161,8 @@ fn is_count(most: u8, count: u8) -> bool
 }
 
 // The refusal of a slice: 1, 15 (empty slice or unknown map), 16 (another length than the map's) or 17 (a field out of range), and 0 where
-// the slice is exactly one message. The plan's counts are tested apart, with other tests between them: side by side the compiler joins them
-// into one test, which takes twice the steps.
+// the slice is exactly one message. The plan's counts are tested apart, with the slice's length and first byte between them: side by side
+// the compiler joins them into one test, which takes twice the steps.
 pub fn message_refusal(plan: Plan, bytes: &[u8]) -> u8
     ensures { λ r. ⌜ r ≡ numberOf (readMessage plan (now (bytes .entry))) ⌝ }
 {
@@ -143,48 +175,12 @@ pub fn message_refusal(plan: Plan, bytes: &[u8]) -> u8
         }
         return 15;
     }
-    let map = bytes[0];
     if !is_count(7, plan.acceptors) {
         return 1;
     }
-    if map == 0x09 {
-        if !is_count(4, plan.leaders) {
-            return 1;
-        }
-        return refusal_1a(plan, map, bytes);
-    }
-    if map == 0x07 {
-        if !is_count(4, plan.leaders) {
-            return 1;
-        }
-        return refusal_1b(plan, map, bytes);
-    }
-    if map == 0x1F {
-        if !is_count(4, plan.leaders) {
-            return 1;
-        }
-        return refusal_1b_vote(plan, map, bytes);
-    }
-    if map == 0x19 {
-        if !is_count(4, plan.leaders) {
-            return 1;
-        }
-        return refusal_2a(plan, map, bytes);
-    }
-    if map == 0x1B {
-        if !is_count(4, plan.leaders) {
-            return 1;
-        }
-        return refusal_2b(plan, map, bytes);
-    }
-    if map == 0x10 {
-        if !is_count(4, plan.leaders) {
-            return 1;
-        }
-        return refusal_decision(plan, map, bytes);
-    }
+    let map = bytes[0];
     if !is_count(4, plan.leaders) {
         return 1;
     }
-    15
+    map_refusal(plan, map, bytes)
 }

@@ -45,7 +45,9 @@ pub enum Message {
 
 /// A message as its bit map and raw fields. Fields that the map does not name are not looked at by the writer, and 0
 /// from the reader.
+// At an even address, so that the reader's `Result` takes eight bytes and is stored at once, as the call's number came.
 #[derive(Clone, Copy, Debug, Default, PartialEq, Eq, Hash)]
+#[repr(align(2))]
 pub struct Fields {
     /// The bit map: 09 (1a), 07 (1b without a vote), 1F (1b with a vote), 19 (2a), 1B (2b) or 10 (decision),
     /// hexadecimal.
@@ -111,31 +113,11 @@ impl Fields {
     /// [`Length`](Refusal::Length) and [`Field`](Refusal::Field).
     #[inline]
     pub fn read(plan: Plan, bytes: &[u8]) -> Result<Fields, Refusal> {
-        // Each answer is made whole by a function of its own, which keeps the compiler from taking the two apart and
-        // putting one together again byte by byte: what the call answers for a message is then stored as it came.
-        let message: fn(u64) -> Result<Fields, Refusal> = Fields::of_code;
-        let refusal: fn(u8) -> Result<Fields, Refusal> = |number| Err(refused(number.into()));
-        let code = ffi::read(plan, bytes);
-        match code as u8 {
-            0 => message(code),
-            number => refusal(number),
+        let [number, map, ins, acc, mbal, bal, val, _] = ffi::read(plan, bytes).to_le_bytes();
+        match number {
+            0 => Ok(Fields { map, ins, acc, mbal, bal, val }),
+            number => Err(refused(number.into())),
         }
-    }
-
-    /// The fields in a message's number, from its byte 1 on.
-    #[inline]
-    fn of_code(code: u64) -> Result<Fields, Refusal> {
-        // In place, for the same reason.
-        let mut answer = Ok(Fields::default());
-        if let Ok(fields) = &mut answer {
-            fields.map = (code >> 8) as u8;
-            fields.ins = (code >> 16) as u8;
-            fields.acc = (code >> 24) as u8;
-            fields.mbal = (code >> 32) as u8;
-            fields.bal = (code >> 40) as u8;
-            fields.val = (code >> 48) as u8;
-        }
-        answer
     }
 
     /// The proved writer, with raw fields. It refuses [`Refusal::Plan`], [`Map`](Refusal::Map) for a map that is no
