@@ -1,6 +1,7 @@
 -- From the bytes of a slot, map and fields, to the cases of `voteStep`, as the code tests them.
 --     vote-step      the code's test is that of `voteStep`
---     vote-map, vote-value, vote-rms, vote-taken     a slot with no 2b, with another value, of no instance of the plan, and one that counts
+--     vote-other, vote-rms, vote-taken     a slot with no 2b of the value, of no instance of the plan, and one that counts
+--     same-pair      two bytes as one number stand for no others
 --     flag-bound, cell-bound               the flag and the set of an instance of the plan are there
 --     small-ballot   a 2b's ballot is a byte
 --     vote-next      one slot further
@@ -12,7 +13,7 @@ use mathlib.Core.Path.{_≡_, refl, sym, _∙_, ap, ap₂}
 use native.Mathlib.Omega.{arith}
 use lib.Dec.{ltb, eqb}
 use lib.ListN.{length, getD, set}
-use borrow.Author.Tests.{lt-ltb, le-ltb, eq-eqb, ne-eqb, eqb-true}
+use borrow.Author.Tests.{lt-ltb, le-ltb, eq-eqb, ne-eqb, eqb-true, eqb-false}
 use Rattle.message.specs.declared.Plan.{Plan}
 use Rattle.message.specs.declared.Vote.the-variants.{None, Cast}
 use Rattle.message.specs.declared.Message.{Message}
@@ -27,6 +28,9 @@ use Rattle.quorum.specs.Quorum.{isMajority}
 use Rattle.quorum.specs.Mask.{insertBit, join, ones}
 use Rattle.inbox.specs.Inbox.Slots.{messageAt, ahead, ahead-used}
 use Rattle.inbox.specs.Inbox.Votes.{Tally, tally, joined, tallied, voteStep, smallBallot, Counts, counts-next}
+
+pub same-pair : (a b c d x y : ℕ) → (x ≡ 256 * a + b) × (b < 256) → (y ≡ 256 * c + d) × (d < 256) → x ≡ y → (a ≡ c) × (b ≡ d)
+same-pair a b c d x y e f g = (omega arith, omega arith)
 
 module _ (map b1 b2 b3 b4 b5 : ℕ) where
   messageIf : (t u w x y : Bool) → Message
@@ -68,26 +72,35 @@ module _ (map b1 b2 b3 b4 b5 : ℕ) where
       go false false false false false = refl
 
   module _ (p : Plan) (v : ℕ) where
-    pub vote-map : (map ≡ 0x1B → ⊥) → (s : Tally) → s ≡ voteStep p v s (fieldsMessage map b1 b2 b3 b4 b5)
+    vote-map : (map ≡ 0x1B → ⊥) → (s : Tally) → s ≡ voteStep p v s (fieldsMessage map b1 b2 b3 b4 b5)
     vote-map n s = sym (rw (ne-eqb map 0x1B n)) ∙ vote-step p v s
 
-    pub vote-value : (b4 ≡ v → ⊥) → (s : Tally) → s ≡ voteStep p v s (fieldsMessage map b1 b2 b3 b4 b5)
+    vote-value : (b4 ≡ v → ⊥) → (s : Tally) → s ≡ voteStep p v s (fieldsMessage map b1 b2 b3 b4 b5)
     vote-value n s = sym (rw (ne-eqb b4 v n, and-false)) ∙ vote-step p v s
+
+    -- value and map as one number, which is not that of a 2b of the value
+    pub vote-other : (x y : ℕ) → x ≡ 256 * b4 + map → y ≡ 256 * v + 0x1B → (x ≡ y → ⊥) → (s : Tally) → s ≡ voteStep p v s (fieldsMessage map b1 b2 b3 b4 b5)
+    vote-other x y e f n s = go (eqb map 0x1B) refl (eqb b4 v) refl
+      where
+        go : (a : Bool) → eqb map 0x1B ≡ a → (b : Bool) → eqb b4 v ≡ b → s ≡ voteStep p v s (fieldsMessage map b1 b2 b3 b4 b5)
+        go true g true h = let i = eqb-true map 0x1B g in let j = eqb-true b4 v h in absurd (n (omega arith))
+        go true g false h = vote-value (eqb-false b4 v h) s
+        go false g b h = vote-map (eqb-false map 0x1B g) s
 
     pub vote-rms : p .rms ≤ b1 → (s : Tally) → s ≡ voteStep p v s (fieldsMessage map b1 b2 b3 b4 b5)
     vote-rms h s = sym (rw (le-ltb b1 (p .rms) h, and-false)) ∙ vote-step p v s
 
-    pub vote-taken : map ≡ 0x1B → b4 ≡ v → b1 < p .rms
+    pub vote-taken : (b4 ≡ v) × (map ≡ 0x1B) → b1 < p .rms
         → (masks : List ℕ) (flags cell : ℕ) → cell ≡ 256 * b1 + b3 → (mask : ℕ) → mask ≡ join (getD masks cell 0) b2
         → (maj : Bool) → maj ≡ isMajority (p .acceptors) (ones (p .acceptors) mask) → (flags′ : ℕ) → flags′ ≡ cond maj (insertBit flags b1) flags
         → tally (set masks cell mask) flags′ ≡ voteStep p v (tally masks flags) (fieldsMessage map b1 b2 b3 b4 b5)
     unfolding tallied joined
-    vote-taken e k h masks flags cell of-cell mask of-mask maj of-maj flags′ f =
+    vote-taken e h masks flags cell of-cell mask of-mask maj of-maj flags′ f =
         rw (f, of-maj, of-mask, of-cell)
         (sym (ap (λ (t : Bool). cond t (tallied p (tally masks flags) b1 b2 b3) (tally masks flags)) passes) ∙ vote-step p v (tally masks flags))
       where
         passes : ((eqb map 0x1B && eqb b4 v) && ltb b1 (p .rms)) ≡ true
-        passes = ap₂ _&&_ (ap₂ _&&_ (eq-eqb map 0x1B e) (eq-eqb b4 v k)) (lt-ltb b1 (p .rms) h)
+        passes = ap₂ _&&_ (ap₂ _&&_ (eq-eqb map 0x1B (e .1)) (eq-eqb b4 v (e .0))) (lt-ltb b1 (p .rms) h)
 
 module _ (p : Plan) (plan : isPlan p ≡ true) (ins : ℕ) (h : ins < p .rms) where
   pub flag-bound : ins < 32

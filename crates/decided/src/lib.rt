@@ -1,6 +1,6 @@
 // Decided, as a leader reads it from its inbox: one pass over the inbox, whether it was judged or not.
 //
-//     cell_of, set_flag, vote_step       a set of acceptors for each instance and ballot, and a flag for each instance that has a majority
+//     pair_of, set_flag, vote_step       a set of acceptors for each instance and ballot, and a flag for each instance that has a majority
 //     least_flags, gather_votes          the pass, up to where the flags suffice
 //     is_decided_all, is_decided_some    Decided(i, value) for all instances of the plan, and for some
 //
@@ -21,11 +21,11 @@ ghost use Rattle.inbox.specs.Inbox.Bits.{quantify};
 use message::Plan;
 use message::SLOT_SIZE;
 
-// Where the set of acceptors of an instance and ballot stands.
-fn cell_of(ins: u8, bal: u8) -> usize
-    ensures { λ r. ⌜ (r ≡ 256 * ins + bal) × (bal < 256) ⌝ }
+// Two bytes as one number: an instance and a ballot, which is where their set of acceptors stands, or a value and a map.
+fn pair_of(high: u8, low: u8) -> usize
+    ensures { λ r. ⌜ (r ≡ 256 * high + low) × (low < 256) ⌝ }
 {
-    256 * (ins as usize) + (bal as usize)
+    256 * (high as usize) + (low as usize)
 }
 
 fn set_flag(flags: u32, ins: u8) -> u32
@@ -36,7 +36,7 @@ fn set_flag(flags: u32, ins: u8) -> u32
 }
 
 // One slot further: the acceptor of a 2b of the value joins the set of its instance and ballot, and where that becomes a majority the
-// instance's flag is set.
+// instance's flag is set. Map and value are one test: messages of all kinds may alternate, and each test more is one that is not foreseen.
 fn vote_step(
     plan: Plan,
     inbox: &[u8],
@@ -48,17 +48,14 @@ fn vote_step(
     requires { ⌜ (isPlan plan ≡ true) × (at + slotSize ≤ length (now inbox)) ⌝ }
     ensures { λ r. ⌜ tally (now (masks .exit)) r ≡ voteStep plan value (tally (now (masks .entry)) flags) (messageAt (now (inbox .entry)) at) ⌝ }
 {
-    if inbox[at] != 0x1B {
-        return flags;
-    }
-    if inbox[at + 4] != value {
+    if pair_of(inbox[at + 4], inbox[at]) != pair_of(value, 0x1B) {
         return flags;
     }
     let ins = inbox[at + 1];
     if plan.rms <= ins {
         return flags;
     }
-    let cell = cell_of(ins, inbox[at + 3]);
+    let cell = pair_of(ins, inbox[at + 3]);
     let mask = quorum::insert_bit(masks[cell], inbox[at + 2]);
     masks[cell] = mask;
     if quorum::is_majority(plan.acceptors, mask) {
