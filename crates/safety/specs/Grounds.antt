@@ -1,9 +1,10 @@
 -- Why demand 3 holds: what every record that was opened and used satisfies.
 --     sentIn, seenBy     N and an inbox as sets of published messages
 --     InvOf              the invariant of module PaxosCommit, of the state that W, Q and N hold
---     Grounded           that, and what the inboxes have to do with N
--- Below: Opened.antt, a record of zeros; Inboxes.antt and Kept.antt, each event keeps it; Moves.antt, what becomes of W; Contradicted.antt,
--- no decision contradicts; Steps.antt, one event call. Laws that these use: Zeros.antt, Stored.antt, Row.antt.
+--     Unchanged          the tables that hold that state keep their bytes
+--     Grounded           the invariant, and what the inboxes have to do with N
+-- Below: Opened.antt, a record of zeros; Inboxes.antt and Kept.antt, each event keeps it; Published.antt, each event is a step of module
+-- PaxosCommit; Moves.antt, what becomes of W; Contradicted.antt, no decision contradicts; Steps.antt, one event call. Laws that these use: Zeros.antt, Stored.antt, Row.antt.
 -- Assumes nothing.
 pub mod Zeros
 pub mod Stored
@@ -11,6 +12,7 @@ pub mod Row
 pub mod Opened
 pub mod Inboxes
 pub mod Kept
+pub mod Published
 pub mod Moves
 pub mod Contradicted
 pub mod Steps
@@ -36,6 +38,10 @@ seenBy p t l = setOf (messages p (inboxOf p (t .inboxes) l))
 
 abbrev pub InvOf : Plan → Tables → Type 0
 InvOf p t = Inv (isRM p) (isAcceptor p) (isMajoritySet p) (recordState p t)
+
+-- W, Q and N keep their bytes, and so the three variables of module PaxosCommit stay
+abbrev pub Unchanged : Tables → Tables → Type 0
+Unchanged t t′ = (t′ .states ≡ t .states) × (t′ .votes ≡ t .votes) × (t′ .network ≡ t .network)
 
 pub record Grounded (p : Plan) (t : Tables) : Type 0 where
   -- rows 1 to 6 do not apply

@@ -9,12 +9,15 @@
 --     opening-fresh, opening-lengths     opening makes a fresh record of the same lengths (a refused one leaves the tables: open-keeps in the crate
 --                              conformance)
 --     demand-3-opened          demand 3 from opening on
+--     made-means, tables-after, answers-after, after-each-split     what the definitions above mean: each call is one event call of the record, and
+--                              is given what the calls before it left
+--     demand-3-each            so demand 3 holds of every event call after every list of calls
 --     fresh-initial            a fresh record reads as PCInit of module PaxosCommit
 -- Why they hold: Grounds.antt. Assumes nothing.
 use Prim.Native.Nat.{ℕ}
 use mathlib.Core.List.{List, [], _∷_, _++_, List·Memᴰ, List·Memᴰ·head, List·Memᴰ·tail, List·Memᴰ·not-nil}
 use mathlib.Core.Logic.{_⊎_}
-use mathlib.Core.Path.{_≡_, sym}
+use mathlib.Core.Path.{_≡_, refl, sym, ap}
 use lib.ListN.{length, length-replicate}
 use Rattle.message.specs.declared.Plan.{Plan}
 use Rattle.message.specs.declared.Message.{Message}
@@ -121,6 +124,29 @@ pub network-kept : (p : Plan) (t : Tables) (calls more : List Call) (k : ℕ) (m
 network-kept p t (c ∷ cs) more k m h = network-kept p (made p t c .tables) cs more k m h
 network-kept p t [] [] k m h = h
 network-kept p t [] (c ∷ cs) k m h = network-kept p (made p t c .tables) [] cs k m (slot-made p t c k m h)
+
+pub made-means : (p : Plan) (t : Tables) (e : List ℕ) → made p t (event e) ≡ recordStep p t e
+made-means p t e = refl
+
+module _ (p : Plan) where
+  pub tables-after : (t : Tables) (calls : List Call) (c : Call)
+      → (tablesAfter p t [] ≡ t) × (tablesAfter p t (calls ++ (c ∷ [])) ≡ made p (tablesAfter p t calls) c .tables)
+  tables-after t [] c = (refl, refl)
+  tables-after t (d ∷ ds) c = (refl, tables-after (made p t d .tables) ds c .1)
+
+  pub answers-after : (t : Tables) (calls : List Call) (c : Call)
+      → (answers p t [] ≡ []) × (answers p t (calls ++ (c ∷ [])) ≡ answers p t calls ++ (made p (tablesAfter p t calls) c .answer ∷ []))
+  answers-after t [] c = (refl, refl)
+  answers-after t (d ∷ ds) c = (refl, ap (λ (l : List (Outcome Sent)). made p t d .answer ∷ l) (answers-after (made p t d .tables) ds c .1))
+
+  pub after-each-split : (P : Tables → RecordStep → Type 0) (t : Tables) (calls : List Call) (c : Call) (more : List Call)
+      → AfterEach p P t (calls ++ (c ∷ more)) → P (tablesAfter p t calls) (made p (tablesAfter p t calls) c)
+  after-each-split P t [] c more h = h .0
+  after-each-split P t (d ∷ ds) c more h = after-each-split P (made p t d .tables) ds c more (h .1)
+
+  pub demand-3-each : (t : Tables) → Fresh t → (calls : List Call) (e : List ℕ)
+      → Safe p (tablesAfter p t calls) (recordStep p (tablesAfter p t calls) e)
+  demand-3-each t fresh calls e = after-each-split (Safe p) t calls (event e) [] (demand-3 p t fresh (calls ++ (event e ∷ [])))
 
 module _ (p : Plan) (t : Tables) where
   pub opening-fresh : recordOpen p t .answer ≡ accepted tt → Fresh (recordOpen p t .tables)

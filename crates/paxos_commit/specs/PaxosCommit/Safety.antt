@@ -56,6 +56,8 @@ module _ (RM Acceptor : ℕ → Type 0) (Majority : (ℕ → Bool) → Type 0) w
     pub last-vote : (i a b : ℕ) → RM i → Acceptor a → s .aState i a .bal ≡ ballot b → s .msgs (phase2b a i b (s .aState i a .val))
     -- a 1b is a promise not to go back below its ballot m
     pub promised : (i m : ℕ) (r : Bal) (v : Val) (a : ℕ) → s .msgs (phase1b i m r v a) → m ≤ s .aState i a .mbal
+    -- an acceptor sends one 1b for an instance and a ballot
+    pub one-report : (i m : ℕ) (r q : Bal) (v w : Val) (a : ℕ) → s .msgs (phase1b i m r v a) → s .msgs (phase1b i m q w a) → (r ≡ q) × (v ≡ w)
     -- a 1b reports a vote of its sender, and the sender has no later vote below m
     pub report : (i m : ℕ) (r : Bal) (v : Val) (a : ℕ) → s .msgs (phase1b i m r v a)
         → ((c : ℕ) → r ≡ ballot c → s .msgs (phase2b a i c v)) × ((c : ℕ) (w : Val) → s .msgs (phase2b a i c w) → c < m → atMost (ballot c) r)

@@ -4,6 +4,7 @@
 --     used-event             so it stays
 --     path-event, agreed-used, not-contradicted-event     the three claims of demand 3
 --     length-event           W keeps its length
+--     published-event        an accepted call is an action of PCNext, or a receipt; kept-event: a refused one leaves W, Q and N
 --     slot-event             what stands in a slot of N stays there; on any tables
 -- Assumes nothing.
 use Prim.Native.Nat.{ℕ}
@@ -14,6 +15,7 @@ use lib.ListN.{length}
 use Rattle.message.specs.declared.Plan.{Plan}
 use Rattle.message.specs.declared.Message as Wire
 use Rattle.message.specs.Outcome.{Outcome, accepted, refused, andThen}
+use Rattle.message.specs.Outcome.Laws.{accepted-not-refused}
 use Rattle.slots.specs.Table.{messages}
 use Rattle.slots.specs.Send.{messageAt}
 use Rattle.change.specs.declared.Sent.{Sent}
@@ -24,10 +26,11 @@ use Rattle.matching.specs.Call.{Sends}
 use Rattle.conformance.specs.Record.{Acted}
 use Rattle.conformance.specs.Record.{prepares, chooses-to-abort, receives-commit, receives-abort, promises, casts-vote, receives, opens-ballot, proposes, commits, aborts}
 use Rattle.conformance.specs.Theorems.{record-answers, record-keeps, record-acts, record-sound}
-use Rattle.safety.specs.Grounds.{Grounded}
+use Rattle.safety.specs.Grounds.{Unchanged, Grounded}
 use Rattle.safety.specs.Grounds.Stored.{stores-slot}
 use Rattle.safety.specs.Grounds.Opened.{agreed-zeros, messages-none, grounded-zeros}
 use Rattle.safety.specs.Grounds.Kept.{grounded-acted}
+use Rattle.safety.specs.Grounds.Published.{unchanged-of, ActsOrReceives, published-acted}
 use Rattle.safety.specs.Grounds.Moves.{Path, agreed, path-acted}
 use Rattle.safety.specs.Grounds.Contradicted.{row-14, not-contradicted, not-contradicted-empty}
 
@@ -57,6 +60,10 @@ module _ (p : Plan) (t : Tables) (e : List ℕ) where
   idle-keeps : Idle p t → recordStep p t e .tables ≡ t
   unfolding recordStep andThen
   idle-keeps i = rw (i .refuses)
+
+  idle-refuses : Idle p t → (sent : Sent) → recordStep p t e .answer ≡ accepted sent → ⊥
+  unfolding recordStep andThen
+  idle-refuses i sent is = accepted-not-refused (rw (i .refuses) at is)
 
   still-sound : Grounded p t → Sound p (recordStep p t e .tables)
   still-sound g = sound p _ (record-sound p t e (judged p t (g .sound)))
@@ -89,6 +96,14 @@ module _ (p : Plan) (t : Tables) (e : List ℕ) where
   pub not-contradicted-event : Used p t → recordStep p t e .answer ≡ refused 11 → ⊥
   not-contradicted-event (inl g) = not-contradicted p t e _ (record-answers p t e) g
   not-contradicted-event (inr i) = not-contradicted-empty p t e _ (record-answers p t e) (messages-none p t (i .empty))
+
+  pub published-event : Used p t → (sent : Sent) → recordStep p t e .answer ≡ accepted sent
+      → ActsOrReceives p t e (recordStep p t e .tables)
+  published-event (inl g) sent is = published-acted p t e _ _ g (record-acts p t e sent is)
+  published-event (inr i) sent is = absurd (idle-refuses i sent is)
+
+  pub kept-event : (k : ℕ) → recordStep p t e .answer ≡ refused k → Unchanged t (recordStep p t e .tables)
+  kept-event k is = unchanged-of t (kept-refused k is)
 
   -- slot k of N holds m
   module _ (k : ℕ) (m : Wire.Message) where

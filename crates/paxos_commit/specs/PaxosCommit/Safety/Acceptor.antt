@@ -36,7 +36,7 @@ module _ {RM Acceptor : ℕ → Type 0} {Majority : (ℕ → Bool) → Type 0} {
   inv-phase1b i b (asked, lower, e, sent, row) =
       let q = inv .ranges _ asked .0 in
       acts i _ _ e sent row (q, member)
-      (λ here. (rw here (omega arith), λ c. inv .last-vote i acc c q member, λ c w vote l. inv .voted acc i c w vote .2))
+      (λ here. (rw here (omega arith), λ c. inv .last-vote i acc c q member, λ c w vote l. inv .voted acc i c w vote .2, λ r w h. let low = inv .promised i b r w acc h in omega arith))
       (omega arith, atMost-refl (s .aState i acc .bal), λ c m n k. sent _ .1 (inl (inv .last-vote i acc c m n k)))
 
   pub inv-phase2b : (i b : ℕ) (v : Val) → Phase2bOn RM Acceptor Majority acc i b v s s′ → Inv RM Acceptor Majority s′

@@ -31,11 +31,12 @@ Grounded RM s s′ = (i : ℕ) → RM i → (s′ .rmState i ≡ s .rmState i) �
 module _ (RM Acceptor : ℕ → Type 0) (Majority : (ℕ → Bool) → Type 0) (s s′ : State) where
   abbrev pub Fits : Message → Type 0
   Fits (phase1a i b) = Unit {0}
-  -- its sender has promised m, and reports its last vote below m
+  -- its sender has promised m, and reports its last vote below m; it has sent no 1b for m
   Fits (phase1b i m r v a) =
       (m ≤ s′ .aState i a .mbal)
       × ((c : ℕ) → r ≡ ballot c → s .msgs (phase2b a i c v))
       × ((c : ℕ) (w : Val) → s .msgs (phase2b a i c w) → c < m → atMost (ballot c) r)
+      × ((q : Bal) (w : Val) → s .msgs (phase1b i m q w a) → ⊥)
   -- it is the first of its ballot, prepared only if the resource manager is, safe, and at ballot 0 from a resource manager that works no more
   Fits (phase2a i b v) =
       ((w : Val) → s .msgs (phase2a i b w) → ⊥)
@@ -83,6 +84,12 @@ module _ {RM Acceptor : ℕ → Type 0} {Majority : (ℕ → Bool) → Type 0} {
   growth-promised : (i m : ℕ) (r : Bal) (v : Val) (a : ℕ) → Sent (phase1b i m r v a) → m ≤ s′ .aState i a .mbal
   growth-promised i m r v a (inl h) = let low = inv .promised i m r v a h in let (up, later, sent) = g .moved i a in omega arith
   growth-promised i m r v a (inr h) = g .fits _ h .1 .0
+
+  growth-one-report : (i m : ℕ) (r q : Bal) (v w : Val) (a : ℕ) → Sent (phase1b i m r v a) → Sent (phase1b i m q w a) → (r ≡ q) × (v ≡ w)
+  growth-one-report i m r q v w a (inl h) (inl k) = inv .one-report i m r q v w a h k
+  growth-one-report i m r q v w a (inl h) (inr k) = absurd (g .fits _ k .1 .3 r v h)
+  growth-one-report i m r q v w a (inr h) (inl k) = absurd (g .fits _ h .1 .3 q w k)
+  growth-one-report i m r q v w a (inr h) (inr k) = let e = g .single _ _ h k in (cc, cc)
 
   growth-reported : (i m : ℕ) (r : Bal) (v : Val) (a : ℕ) → Sent (phase1b i m r v a) → (c : ℕ) → r ≡ ballot c → s′ .msgs (phase2b a i c v)
   growth-reported i m r v a (inl h) c e = g .kept _ (inv .report i m r v a h .0 c e)
@@ -135,6 +142,7 @@ module _ {RM Acceptor : ℕ → Type 0} {Majority : (ℕ → Bool) → Type 0} {
         voted = λ a i b v h. growth-voted a i b v (g .split _ h);
         last-vote = λ i a b q k e. g .moved i a .2 b q k e;
         promised = λ i m r v a h. growth-promised i m r v a (g .split _ h);
+        one-report = λ i m r q v w a h k. growth-one-report i m r q v w a (g .split _ h) (g .split _ k);
         report = λ i m r v a h. (growth-reported i m r v a (g .split _ h), λ c w k. growth-report i m r v a c w (g .split _ h) (g .split _ k));
         safe = λ i b c v w MS h l d many. growth-blocked i c w MS (growth-safe i b c v w MS (g .split _ h) l d many);
         states = λ i q. ⊎-elim (λ e. growth-states i (s′ .rmState i) refl (rw e (inv .states i q))) (λ h. h) (g .states i q);

@@ -26,6 +26,7 @@ module _ {RM Acceptor : ℕ → Type 0} {Majority : (ℕ → Bool) → Type 0} w
         voted = λ a i b v h. absurd (none _ h);
         last-vote = λ i a b q k e. let f = fresh i a q k in let z : _≡_ {A = ℕ} 0 1 = cc in absurd (omega arith);
         promised = λ i m r v a h. absurd (none _ h);
+        one-report = λ i m r q v w a h. absurd (none _ h);
         report = λ i m r v a h. absurd (none _ h);
         safe = λ i b c v w MS h. absurd (none _ h);
         states = λ i q. rw (works i q) (λ v. none _);

@@ -3,6 +3,9 @@
 --     inv-phase2a          all of `seen` is sent; and no 2a of the instance and ballot is sent
 --     inv-decide-commit    what is decided prepared has been chosen in msgs (`decided-kept`, where it is read from sent messages)
 --     inv-decide-abort     what is decided aborted is refused in msgs
+-- So read from sent messages they are the source's actions:
+--     phase2a-of-part      Phase2a, where no 2a of the instance and ballot is sent: an acceptor has sent one 1b, and it is the one in `seen`
+--     decide-commit-of-part, decide-abort-of-part     Decide
 -- Assumes nothing.
 use Prim.Native.Nat.{ℕ, _≤_, _<_}
 use mathlib.Core.Bool.{Bool, true}
@@ -11,9 +14,9 @@ use mathlib.Core.Path.{_≡_, refl}
 use native.Mathlib.Decide.{decLt}
 use native.Mathlib.Omega.{arith}
 use Rattle.paxos_commit.specs.PaxosCommit.{Val, prepared, aborted, Bal, minusOne, ballot, atMost, Message, phase1b, phase2a, phase2b}
-use Rattle.paxos_commit.specs.PaxosCommit.{State, MajoritiesMeet, Phase1a, Reported, ProposedVal, Phase2aFrom}
-use Rattle.paxos_commit.specs.PaxosCommit.{Decided, DecideCommitWhere, DecideAbortWhere}
-use Rattle.paxos_commit.specs.PaxosCommit.Laws.{atMost-trans, maximum-bounds}
+use Rattle.paxos_commit.specs.PaxosCommit.{State, Maximum, MajoritiesMeet, Phase1a, Reported, ProposedVal, Phase2aFrom, Phase2a}
+use Rattle.paxos_commit.specs.PaxosCommit.{Decided, DecideCommitWhere, DecideAbortWhere, Decide}
+use Rattle.paxos_commit.specs.PaxosCommit.Laws.{atMost-trans, maximum-bounds, decided-kept}
 use Rattle.paxos_commit.specs.PaxosCommit.Safety.{Blocked, Refused, Inv}
 use Rattle.paxos_commit.specs.PaxosCommit.Safety.Growth.{inv-says}
 
@@ -88,3 +91,44 @@ module _ {RM Acceptor : ℕ → Type 0} {Majority : (ℕ → Bool) → Type 0} {
         λ z. absurd (omega arith),
       )
       (λ j k. inl (rw row))
+
+-- what is read from a part `seen` of msgs is so in msgs
+module _ {RM Acceptor : ℕ → Type 0} {Majority : (ℕ → Bool) → Type 0} {s : State} (inv : Inv RM Acceptor Majority s)
+    (seen : Message → Type 0) (sub : (x : Message) → seen x → s .msgs x) where
+  -- the reports of ballot b of instance i from the majority MS
+  module _ (b i : ℕ) (MS : ℕ → Bool) (heard : (a : ℕ) → MS a ≡ true → (r : Bal) × (w : Val) × Reported RM Acceptor Majority seen b i MS r w a) where
+    abbrev In : (Message → Type 0) → Bal → Val → ℕ → Type 0
+    In msgs = Reported RM Acceptor Majority msgs b i MS
+
+    forth : (r : Bal) (w : Val) (a : ℕ) → In seen r w a → In (s .msgs) r w a
+    forth r w a (h, m) = (sub _ h, m)
+
+    -- the one 1b that a member of MS has sent is the one in `seen`
+    back : (r : Bal) (w : Val) (a : ℕ) → In (s .msgs) r w a → In seen r w a
+    back r w a (h, m) =
+        let (q, u, (k, again)) = heard a m in
+        let (d, e) = inv .one-report i b r q w u a h (sub _ k) in
+        (rw (d, e) k, m)
+
+    maximum-of-part : (n : Bal) → Maximum (λ r. (w : Val) × (a : ℕ) × In seen r w a) n → Maximum (λ r. (w : Val) × (a : ℕ) × In (s .msgs) r w a) n
+    maximum-of-part n (inl (none, e)) = inl (λ r (w, a, h). none r (w, a, back r w a h), e)
+    maximum-of-part n (inr ((w, a, h), bound)) = inr ((w, a, forth n w a h), λ r (u, c, k). bound r (u, c, back r u c k))
+
+    proposed-of-part : (v : Val) → ProposedVal RM Acceptor Majority seen b i MS v → ProposedVal RM Acceptor Majority (s .msgs) b i MS v
+    proposed-of-part v (n, most, value) =
+        (n, maximum-of-part n most, ⊎-elim inl (λ (some, (a, h)). inr (some, (a, forth n v a h))) value)
+
+  module _ (s′ : State) where
+    pub phase2a-of-part : (b i : ℕ) → ((v : Val) → s .msgs (phase2a i b v) → ⊥) → Phase2aFrom RM Acceptor Majority seen b i s s′
+        → Phase2a RM Acceptor Majority b i s s′
+    phase2a-of-part b i fresh (unsent, (MS, many, v, heard, p, sent), row, same) =
+        (fresh, (MS, many, v, λ a m. let (r, w, h) = heard a m in (r, w, forth b i MS heard r w a h), proposed-of-part b i MS heard v p, sent), row, same)
+
+    sent-decided : (i : ℕ) (v : Val) → Decided RM Acceptor Majority seen i v → Decided RM Acceptor Majority (s .msgs) i v
+    sent-decided = decided-kept RM Acceptor Majority seen (s .msgs) sub
+
+    pub decide-commit-of-part : DecideCommitWhere RM Acceptor Majority (Decided RM Acceptor Majority seen) s s′ → Decide RM Acceptor Majority s s′
+    decide-commit-of-part (all, sent, row, same) = inl (λ i q. sent-decided i prepared (all i q), sent, row, same)
+
+    pub decide-abort-of-part : DecideAbortWhere RM Acceptor Majority (Decided RM Acceptor Majority seen) s s′ → Decide RM Acceptor Majority s s′
+    decide-abort-of-part ((i, q, d), sent, row, same) = inr ((i, q, sent-decided i aborted d), sent, row, same)

@@ -1,0 +1,94 @@
+-- The record implements module PaxosCommit as published, every condition read from msgs, which is N: each list of event calls from a fresh
+-- record is a behaviour of PCSpec, so the theorems of document 001 (paxos_commit's Theorems.antt) hold of it.
+--     Published              one event call: an accepted one is an action of PCNext, a receipt apart; a receipt and a refused call leave W, Q and N
+--     record-published       every event call after every list of calls
+--     stateAt                the state at time n: what the first n calls of a list leave
+--     record-behaviour       it is a behaviour of PCSpec
+--     record-commits         so W is one of TCSpec
+--     record-one-decision    and N never holds both Commit and Abort
+-- Assumes nothing.
+use Prim.Native.Nat.{ℕ, zero, suc}
+use mathlib.Core.List.{List, [], _∷_}
+use mathlib.Core.Logic.{inl, inr, ⊎-elim}
+use mathlib.Core.Path.{_≡_, refl, ap}
+use lib.ListN.{take}
+use Rattle.message.specs.declared.Plan.{Plan}
+use Rattle.message.specs.Outcome.{Outcome, accepted, refused}
+use Rattle.change.specs.declared.Sent.{Sent}
+use Rattle.event.specs.Event.{kindOf}
+use Rattle.tcommit.specs.TCommit.{TCSpec}
+use Rattle.paxos_commit.specs.PaxosCommit.{State, Commit, Abort, PCNext, PCStep, PCSpec}
+use Rattle.paxos_commit.specs.Theorems.{paxos-commit-implements, one-decision}
+use Rattle.record.specs.Record.{Tables, recordStep}
+use Rattle.matching.specs.Reading.{isRM, isAcceptor, isMajoritySet, rmStateOf, aStateOf}
+use Rattle.matching.specs.Theorems.{majorities-meet}
+use Rattle.conformance.specs.Record.{recordState}
+use Rattle.safety.specs.Grounds.{sentIn, Unchanged}
+use Rattle.safety.specs.Grounds.Steps.{Used, used-zeros, used-event, published-event, kept-event}
+use Rattle.safety.specs.Theorems.{Fresh, Call, event, tablesAfter, fresh-initial}
+
+-- the event call e on the tables t, as module PaxosCommit sees it
+pub record Published (p : Plan) (t : Tables) (e : List ℕ) : Type 0 where
+  -- accepted and no receipt, it is an action
+  pub acts : (sent : Sent) → recordStep p t e .answer ≡ accepted sent → (kindOf e ≡ 4 → ⊥)
+      → PCNext (isRM p) (isAcceptor p) (isMajoritySet p) (recordState p t) (recordState p (recordStep p t e .tables))
+  -- W, Q and N keep their bytes
+  pub receipt : kindOf e ≡ 4 → Unchanged t (recordStep p t e .tables)
+  pub refusal : (k : ℕ) → recordStep p t e .answer ≡ refused k → Unchanged t (recordStep p t e .tables)
+
+-- the state at time n: what the first n calls leave, and after the last call what that left
+abbrev pub stateAt : Plan → Tables → List Call → ℕ → State
+stateAt p t calls n = recordState p (tablesAfter p t (take n calls))
+
+module _ (p : Plan) where
+  published : (t : Tables) (e : List ℕ) → Used p t → Published p t e
+  published t e u =
+      record {
+        acts = λ sent is other. ⊎-elim (λ h. h .1) (λ h. absurd (other (h .0))) (published-event p t e u sent is);
+        receipt = λ kind. stays kind (recordStep p t e .answer) refl;
+        refusal = kept-event p t e;
+      }
+    where
+      stays : kindOf e ≡ 4 → (o : Outcome Sent) → recordStep p t e .answer ≡ o → Unchanged t (recordStep p t e .tables)
+      stays kind (accepted sent) is = ⊎-elim (λ h. absurd (h .0 kind)) (λ h. h .1) (published-event p t e u sent is)
+      stays kind (refused k) is = kept-event p t e k is
+
+  used-after : (t : Tables) → Used p t → (calls : List Call) → Used p (tablesAfter p t calls)
+  used-after t u [] = u
+  used-after t u (event e ∷ cs) = used-after (recordStep p t e .tables) (used-event p t e u) cs
+
+  abbrev Step : Tables → Tables → Type 0
+  Step t t′ = PCStep (isRM p) (isAcceptor p) (isMajoritySet p) (recordState p t) (recordState p t′)
+
+  -- what keeps W, Q and N keeps the three variables
+  step-unchanged : (t t′ : Tables) → Unchanged t t′ → Step t t′
+  step-unchanged t t′ (w, q, n) = inr (ap rmStateOf w, ap (aStateOf p) q, λ x. rw n ((λ h. h), λ h. h))
+
+  step-event : (t : Tables) (e : List ℕ) → Used p t → Step t (recordStep p t e .tables)
+  step-event t e u = go (recordStep p t e .answer) refl
+    where
+      go : (o : Outcome Sent) → recordStep p t e .answer ≡ o → Step t (recordStep p t e .tables)
+      go (accepted sent) is = ⊎-elim (λ h. inl (h .1)) (λ h. step-unchanged t (recordStep p t e .tables) (h .1)) (published-event p t e u sent is)
+      go (refused k) is = step-unchanged t (recordStep p t e .tables) (kept-event p t e k is)
+
+  steps : (t : Tables) → Used p t → (calls : List Call) (n : ℕ) → Step (tablesAfter p t (take n calls)) (tablesAfter p t (take (suc n) calls))
+  steps t u [] zero = step-unchanged t t (refl, refl, refl)
+  steps t u [] (suc n) = step-unchanged t t (refl, refl, refl)
+  steps t u (event e ∷ cs) zero = step-event t e u
+  steps t u (event e ∷ cs) (suc n) = steps (recordStep p t e .tables) (used-event p t e u) cs n
+
+module _ (p : Plan) (t : Tables) (fresh : Fresh t) (calls : List Call) where
+  used-fresh : Used p t
+  used-fresh = used-zeros p t (fresh .0) (fresh .1) (fresh .2) (fresh .3)
+
+  pub record-published : (e : List ℕ) → Published p (tablesAfter p t calls) e
+  record-published e = published p (tablesAfter p t calls) e (used-after p t used-fresh calls)
+
+  pub record-behaviour : PCSpec (isRM p) (isAcceptor p) (isMajoritySet p) (stateAt p t calls)
+  record-behaviour = (fresh-initial p t fresh, steps p t used-fresh calls)
+
+  pub record-commits : TCSpec (isRM p) (λ n. rmStateOf (tablesAfter p t (take n calls) .states))
+  record-commits = paxos-commit-implements (isRM p) (isAcceptor p) (isMajoritySet p) (majorities-meet p .1) (stateAt p t calls) record-behaviour
+
+  pub record-one-decision : (n : ℕ) → sentIn p (tablesAfter p t (take n calls)) Commit → sentIn p (tablesAfter p t (take n calls)) Abort → ⊥
+  record-one-decision = one-decision (isRM p) (isAcceptor p) (isMajoritySet p) (majorities-meet p .1) (stateAt p t calls) record-behaviour

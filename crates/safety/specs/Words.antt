@@ -1,0 +1,69 @@
+-- Demand 3's step in document 01's own words ("Transaction Commit"), of the bytes of W and in its numbers: 0 working, 1 prepared, 2 committed,
+-- 3 aborted.
+--     OneStep            one step on a row of n weights: one weight changes, from 0 to 1; from 1 to 2 if every weight is 1 or 2; from 0 or 1 to 3
+--                        if none is 2
+--     step-words         what `Safe` calls a step of Transaction Commit is such a step
+--     demand-3-words     after each call of every list from a fresh record W is as before the call, or one such step further
+-- Assumes nothing.
+use Prim.Native.Nat.{ℕ, _<_}
+use mathlib.Core.List.{List, [], _∷_}
+use mathlib.Core.Logic.{_⊎_, inl, inr, ⊎-elim}
+use mathlib.Core.Path.{_≡_, refl, sym, _∙_, ap}
+use native.Mathlib.Decide.{decLt}
+use native.Mathlib.Omega.{arith}
+use lib.ListN.{length, getD, set, length-set, List·getD-eq-default}
+use lib.Seq.{ext-getD, getD-set-same, getD-set-other}
+use Rattle.message.specs.declared.Plan.{Plan}
+use Rattle.tcommit.specs.TCommit.{except, TCNext}
+use Rattle.tcommit.specs.TCommit.Laws.{except-cases, except-here}
+use Rattle.record.specs.Record.{Tables, RecordStep}
+use Rattle.matching.specs.Reading.{isRM, rmStateOf}
+use Rattle.safety.specs.Theorems.{Fresh, Call, made, AfterEach, Safe, demand-3}
+
+abbrev pub OneStep : ℕ → List ℕ → List ℕ → Type 0
+OneStep n W W′ =
+    (i v : ℕ) × (i < n)
+    × (W′ ≡ set W i v)
+    × (((getD W i 0 ≡ 0) × (v ≡ 1))
+    ⊎ (((getD W i 0 ≡ 1) × (v ≡ 2) × ((j : ℕ) → j < n → (getD W j 0 ≡ 1) ⊎ (getD W j 0 ≡ 2)))
+    ⊎ (((getD W i 0 ≡ 0) ⊎ (getD W i 0 ≡ 1)) × (v ≡ 3) × ((j : ℕ) → j < n → getD W j 0 ≡ 2 → ⊥))))
+
+-- rows of one length, where weight i alone changes, and to no 0
+module _ (W W′ : List ℕ) (size : length W′ ≡ length W) (i v : ℕ) (some : 0 < v) (e : rmStateOf W′ ≡ except (rmStateOf W) i v) where
+  stands : i < length W
+  stands = go (decLt i (length W))
+    where
+      go : Dec (i < length W) → i < length W
+      go (yes h) = h
+      go (no h) =
+          let new : getD W′ i 0 ≡ v = ap (λ (f : ℕ → ℕ). f i) e ∙ except-here (rmStateOf W) i v in
+          let out : getD W′ i 0 ≡ 0 = List·getD-eq-default W′ 0 (omega arith) in
+          absurd (omega arith)
+
+  changed : W′ ≡ set W i v
+  changed = ext-getD 0 W′ (set W i v) (size ∙ sym (length-set W i v)) (λ j h. ap (λ (f : ℕ → ℕ). f j) e ∙ there j)
+    where
+      there : (j : ℕ) → except (rmStateOf W) i v j ≡ getD (set W i v) j 0
+      there = except-cases (λ y u. u ≡ getD (set W i v) y 0) (rmStateOf W) i v (sym (getD-set-same W i v 0 stands))
+          (λ y other. sym (getD-set-other W i y v 0 other))
+
+pub step-words : (p : Plan) (W W′ : List ℕ) → length W′ ≡ length W → TCNext (isRM p) (rmStateOf W) (rmStateOf W′) → OneStep (p .rms) W W′
+step-words p W W′ size (i, rm, inl (works, e)) = (i, 1, rm, changed W W′ size i 1 (omega arith) e, inl (works, refl))
+step-words p W W′ size (i, rm, inr (inl (ready, all, e))) = (i, 2, rm, changed W W′ size i 2 (omega arith) e, inr (inl (ready, refl, all)))
+step-words p W W′ size (i, rm, inr (inr (undecided, none, e))) = (i, 3, rm, changed W W′ size i 3 (omega arith) e, inr (inr (undecided, refl, none)))
+
+-- W after the call is W before it, or one step further
+abbrev pub SameOrStep : Plan → Tables → RecordStep → Type 0
+SameOrStep p t r = (r .tables .states ≡ t .states) ⊎ OneStep (p .rms) (t .states) (r .tables .states)
+
+-- what holds of each call implies what follows from it of each call
+each-of-each : (p : Plan) (P Q : Tables → RecordStep → Type 0) → ((t : Tables) (r : RecordStep) → P t r → Q t r)
+    → (t : Tables) (calls : List Call) → AfterEach p P t calls → AfterEach p Q t calls
+each-of-each p P Q next t [] h = tt
+each-of-each p P Q next t (c ∷ cs) h = (next t (made p t c) (h .0), each-of-each p P Q next (made p t c .tables) cs (h .1))
+
+pub demand-3-words : (p : Plan) (t : Tables) → Fresh t → (calls : List Call) → AfterEach p (SameOrStep p) t calls
+demand-3-words p t fresh calls = each-of-each p (Safe p) (SameOrStep p) words t calls (demand-3 p t fresh calls)
+  where
+    words : (u : Tables) (r : RecordStep) → Safe p u r → SameOrStep p u r
+    words u r safe = ⊎-elim inl (λ next. inr (step-words p (u .states) (r .tables .states) (safe .same-length) next)) (safe .path)
