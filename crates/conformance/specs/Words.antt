@@ -8,6 +8,7 @@
 --     event-form                    four bytes: the kind, a process of its role, and high and low as the kind asks
 --     event-bytes, vote-place       the order of an event's bytes and the slot that they name; the place of an acceptor's three bytes in Q
 --     owner-rule                    leader l owns ballot b when b > 0 and b mod L = l
+--     range-words                   row 17: what is in range, of each of the six messages
 --     majority-rule                 a majority is a set of acceptors with 2 × size > A
 --     inboxes-joined, inbox-replaced     I is its L inboxes one after the other, each of one size; one is replaced without the others
 --     tables-mean, open-means, step-means, role-means, read-means     what the records and enums in the contracts stand for: nothing but their parts
@@ -15,15 +16,18 @@
 use Prim.Native.Nat.{ℕ, _+_, _*_, _%_, _≤_, _<_}
 use mathlib.Core.Bool.{Bool, true}
 use mathlib.Core.List.{List, [], _∷_}
-use mathlib.Core.Logic.{_↔_}
+use mathlib.Core.Logic.{_⊎_, _↔_}
 use mathlib.Core.Path.{_≡_, refl}
 use lib.ListN.{length, getD}
 use Rattle.message.specs.declared.Plan.{Plan}
 use Rattle.message.specs.declared.Message.{Message}
+use Rattle.message.specs.declared.Message.the-variants.{Phase1a, Phase1b, Phase2a, Phase2b, Decision}
+use Rattle.message.specs.declared.Vote.the-variants.{None, Cast}
 use Rattle.message.specs.declared.Read.the-variants as Reads
 use Rattle.message.specs.Outcome.{accepted, refused}
 use Rattle.message.specs.Codec.{readOutcome}
 use Rattle.message.specs.Plan.{isPlan}
+use Rattle.message.specs.Form.{isInRange}
 use Rattle.slots.specs.Table.{isTableLength, isTable, messages}
 use Rattle.event.specs.Event.{kindOf, whoOf, highOf, lowOf, slotNumber, isEvent}
 use Rattle.change.specs.declared.Sent.{Sent}
@@ -69,6 +73,15 @@ event-form = Laws.event-form
 
 pub owner-rule : (p : Plan) (l b : ℕ) → (owns p l b ≡ true) ↔ ((0 < b) × (b % p .leaders ≡ l))
 owner-rule = Laws.owner-rule
+
+pub range-words : (p : Plan) (ins acc mbal bal val : ℕ)
+    → ((isInRange p (Phase1a ins bal) ≡ true) ↔ ((ins < p .rms) × (1 ≤ bal)))
+    × ((isInRange p (Phase1b ins acc mbal None) ≡ true) ↔ ((ins < p .rms) × (acc < p .acceptors)))
+    × ((isInRange p (Phase1b ins acc mbal (Cast bal val)) ≡ true) ↔ ((ins < p .rms) × (acc < p .acceptors) × ((val ≡ 1) ⊎ (val ≡ 2))))
+    × ((isInRange p (Phase2a ins bal val) ≡ true) ↔ ((ins < p .rms) × ((val ≡ 1) ⊎ (val ≡ 2))))
+    × ((isInRange p (Phase2b ins acc bal val) ≡ true) ↔ ((ins < p .rms) × (acc < p .acceptors) × ((val ≡ 1) ⊎ (val ≡ 2))))
+    × ((isInRange p (Decision val) ≡ true) ↔ ((val ≡ 1) ⊎ (val ≡ 2)))
+range-words = Laws.range-words
 
 pub majority-rule : (A : ℕ) (test : ℕ → Bool)
     → (isQuorum A test ≡ true) ↔ ((members : List ℕ) × Distinct members × AmongFirst A test members × (A < 2 * length members))

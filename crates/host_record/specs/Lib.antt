@@ -1,3 +1,5 @@
 -- Opening and the event call for other languages.
---     Code    what they answer, as numbers, and the four tables
+--     Code       what they answer, as numbers, and the four tables
+--     Theorems   what the numbers stand for
 pub mod Code
+pub mod Theorems

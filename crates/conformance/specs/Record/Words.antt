@@ -11,11 +11,13 @@ use native.Mathlib.Omega.{arith}
 use lib.Dec.{leb, ltb, eqb}
 use lib.ListN.{length, getD, take}
 use lib.Seq.{take-add, take-all}
-use borrow.Author.Tests.{le-leb, lt-leb, leb-true, eq-eqb, ne-eqb, eqb-true, lt-ltb}
+use borrow.Author.Tests.{le-leb, lt-leb, leb-true, eq-eqb, ne-eqb, eqb-true, lt-ltb, ltb-true}
 use Rattle.message.specs.declared.Plan.{Plan}
 use Rattle.message.specs.declared.Message as Wire
+use Rattle.message.specs.declared.Message.the-variants.{Phase1a, Phase1b, Phase2a, Phase2b, Decision}
+use Rattle.message.specs.declared.Vote.the-variants.{None, Cast}
 use Rattle.message.specs.Outcome.Laws.{both}
-use Rattle.message.specs.Form.{isInRange}
+use Rattle.message.specs.Form.{isValue, isVote, isInRange}
 use Rattle.message.specs.Plan.{isCount, isPlan}
 use Rattle.message.specs.Plan.Laws.{plan-bounds}
 use Rattle.slots.specs.All.{all}
@@ -54,6 +56,51 @@ owner-rule p l b = (
   λ h. let t = both (leb 1 b) (eqb (b % p .leaders) l) h in (leb-true 1 b (t .0), eqb-true _ _ (t .1)),
   λ h. rw (le-leb 1 b (h .0), eq-eqb (b % p .leaders) l (h .1)),
 )
+
+-- two tests, and three
+and-words : {A B : Type 0} (a b : Bool) → (a ≡ true) ↔ A → (b ≡ true) ↔ B → ((a && b) ≡ true) ↔ (A × B)
+and-words a b f g = (λ h. let c = both a b h in (f .0 (c .0), g .0 (c .1)), λ (x, y). rw (f .1 x, g .1 y))
+
+and-words₃ : {A B C : Type 0} (a b c : Bool) → (a ≡ true) ↔ A → (b ≡ true) ↔ B → (c ≡ true) ↔ C → ((a && b && c) ≡ true) ↔ (A × B × C)
+and-words₃ a b c f g h = (
+  λ k. let d = both (a && b) c k in let e = both a b (d .0) in (f .0 (e .0), g .0 (e .1), h .0 (d .1)),
+  λ (x, y, z). rw (f .1 x, g .1 y, h .1 z),
+)
+
+below-words : (k n : ℕ) → (ltb k n ≡ true) ↔ (k < n)
+below-words k n = (ltb-true k n, lt-ltb k n)
+
+value-words : (v : ℕ) → (isValue v ≡ true) ↔ ((v ≡ 1) ⊎ (v ≡ 2))
+unfolding isValue
+value-words v = (λ h. let (low, high) = and-words (leb 1 v) (leb v 2) (leb-true 1 v, le-leb 1 v) (leb-true v 2, le-leb v 2) .0 h in go (ℕ-discrete v 1) low high, back)
+  where
+    go : Dec (v ≡ 1) → 1 ≤ v → v ≤ 2 → (v ≡ 1) ⊎ (v ≡ 2)
+    go (yes e) low high = inl e
+    go (no d) low high = inr (omega arith)
+
+    back : (v ≡ 1) ⊎ (v ≡ 2) → (leb 1 v && leb v 2) ≡ true
+    back (inl e) = rw e refl
+    back (inr e) = rw e refl
+
+pub range-words : (p : Plan) (ins acc mbal bal val : ℕ)
+    → ((isInRange p (Phase1a ins bal) ≡ true) ↔ ((ins < p .rms) × (1 ≤ bal)))
+    × ((isInRange p (Phase1b ins acc mbal None) ≡ true) ↔ ((ins < p .rms) × (acc < p .acceptors)))
+    × ((isInRange p (Phase1b ins acc mbal (Cast bal val)) ≡ true) ↔ ((ins < p .rms) × (acc < p .acceptors) × ((val ≡ 1) ⊎ (val ≡ 2))))
+    × ((isInRange p (Phase2a ins bal val) ≡ true) ↔ ((ins < p .rms) × ((val ≡ 1) ⊎ (val ≡ 2))))
+    × ((isInRange p (Phase2b ins acc bal val) ≡ true) ↔ ((ins < p .rms) × (acc < p .acceptors) × ((val ≡ 1) ⊎ (val ≡ 2))))
+    × ((isInRange p (Decision val) ≡ true) ↔ ((val ≡ 1) ⊎ (val ≡ 2)))
+unfolding isInRange isVote
+range-words p ins acc mbal bal val = (
+  and-words _ _ (below-words ins (p .rms)) (leb-true 1 bal, le-leb 1 bal),
+  (λ h. let (i, a, any) = no-vote .0 h in (i, a), λ (i, a). no-vote .1 (i, a, tt)),
+  and-words₃ _ _ _ (below-words ins (p .rms)) (below-words acc (p .acceptors)) (value-words val),
+  and-words _ _ (below-words ins (p .rms)) (value-words val),
+  and-words₃ _ _ _ (below-words ins (p .rms)) (below-words acc (p .acceptors)) (value-words val),
+  value-words val,
+)
+  where
+    no-vote : ((ltb ins (p .rms) && ltb acc (p .acceptors) && true) ≡ true) ↔ ((ins < p .rms) × (acc < p .acceptors) × Unit {0})
+    no-vote = and-words₃ _ _ _ (below-words ins (p .rms)) (below-words acc (p .acceptors)) (λ h. tt, λ h. refl)
 
 pub majority-rule : (A : ℕ) (test : ℕ → Bool)
     → (isQuorum A test ≡ true) ↔ ((members : List ℕ) × Distinct members × AmongFirst A test members × (A < 2 * length members))
