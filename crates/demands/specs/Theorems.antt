@@ -1,0 +1,109 @@
+-- The demands on one page. `recordStep`, `recordOpen`, `rmStep`, `acceptorStep`, `leaderStep`, `readMessage` and `writeMessage` are what the
+-- contracts of the calls equate their answers and tables with, for all tables, bytes and events: no contract has a `requires`, and every call ends.
+--     demand-1          an acceptance or one refusal number from document 01; a refusal changes no byte (-opening, -roles, -messages: the other calls)
+--     demand-2          accepted exactly where the event's published action is enabled and no row but 12 applies; then what the action sets
+--     demand-3          over every list of event calls from a fresh record
+--     byte-form         a slice is read as a message exactly where it is the one form of that message
+-- Assumes nothing.
+use Prim.Native.Nat.{ℕ}
+use mathlib.Core.Bool.{true}
+use mathlib.Core.List.{List}
+use mathlib.Core.Logic.{_↔_}
+use mathlib.Core.Path.{_≡_, refl}
+use lib.ListN.{take}
+use Rattle.message.specs.declared.Plan.{Plan}
+use Rattle.message.specs.declared.Message.{Message}
+use Rattle.message.specs.Outcome.{accepted, refused}
+use Rattle.message.specs.Rows.{Applies}
+use Rattle.message.specs.Plan.{isPlan}
+use Rattle.message.specs.Form.{bytesOf, isInRange}
+use Rattle.message.specs.Codec.{readMessage, writeMessage}
+use Rattle.message.specs.Codec.Laws.{readMessage-bytesOf, readMessage-form, writeMessage-accepted}
+use Rattle.message.specs.Codec.Answers.{writes, form-accepted}
+use Rattle.message.specs.Theorems.{answer, reader-answers, writer-answers}
+use Rattle.change.specs.Change.{Step}
+use Rattle.event.specs.Event.{kindOf}
+use Rattle.paxos_commit.specs.PaxosCommit.{initial}
+use Rattle.rm.specs.Rm.{rmStep}
+use Rattle.acceptor.specs.Acceptor.{acceptorStep}
+use Rattle.leader.specs.Leader.{leaderStep}
+use Rattle.record.specs.Record.{Tables, recordStep, recordOpen}
+use Rattle.matching.specs.Call.{Accepted, Enabled}
+use Rattle.matching.specs.Theorems.{rm-answers, rm-keeps, acceptor-answers, acceptor-keeps, leader-answers, leader-keeps}
+use Rattle.conformance.specs.Record.{recordState, recordRows, Acted}
+use Rattle.conformance.specs.Theorems.{record-answers, record-keeps, record-acts, open-answers, open-keeps}
+use Rattle.safety.specs.Theorems.{Fresh, Call, AfterEach, Safe}
+use Rattle.safety.specs.Theorems as Safety
+use Rattle.demands.specs.Action.{AcceptedOr, Action, Copies}
+use Rattle.demands.specs.Action.Laws.{isWithin, accepted-or, action-acted, copies-acted, enabled-no-row}
+
+module _ (p : Plan) (t : Tables) where
+  pub demand-1 : (e : List ℕ)
+      → AcceptedOr 1 14 (recordStep p t e .answer)
+      × ((k : ℕ) → recordStep p t e .answer ≡ refused k → recordStep p t e .tables ≡ t)
+  unfolding isWithin
+  demand-1 e = (accepted-or 1 14 (recordRows p t e) refl _ (record-answers p t e), record-keeps p t e)
+
+  pub demand-1-opening : AcceptedOr 1 2 (recordOpen p t .answer) × ((k : ℕ) → recordOpen p t .answer ≡ refused k → recordOpen p t .tables ≡ t)
+  unfolding isWithin
+  demand-1-opening = (accepted-or 1 2 _ refl _ (open-answers p t), open-keeps p t)
+
+-- what a role's own call answers, and that a refusal leaves its table and N
+abbrev pub Refuses : List ℕ → List ℕ → Step → Type 0
+Refuses table network s = AcceptedOr 1 14 (s .answer) × ((k : ℕ) → s .answer ≡ refused k → (s .table ≡ table) × (s .network ≡ network))
+
+pub demand-1-roles : (p : Plan) (table network e : List ℕ)
+    → Refuses table network (rmStep p table network e)
+    × Refuses table network (acceptorStep p table network e)
+    × Refuses table network (leaderStep p table network e)
+unfolding isWithin
+demand-1-roles p table network e = (
+  (accepted-or 1 14 _ refl _ (rm-answers p table network e (λ i a. initial)), rm-keeps p table network e),
+  (accepted-or 1 14 _ refl _ (acceptor-answers p table network e (λ i. 0)), acceptor-keeps p table network e),
+  (accepted-or 1 14 _ refl _ (leader-answers p table network e (λ i. 0) (λ i a. initial)), leader-keeps p table network e),
+)
+
+-- the reader and the writer are lent nothing
+pub demand-1-messages : (p : Plan) → ((bytes : List ℕ) → AcceptedOr 1 17 (readMessage p bytes)) × ((m : Message) → AcceptedOr 1 17 (answer (writeMessage p m)))
+unfolding isWithin
+demand-1-messages p =
+    (λ bytes. accepted-or 1 17 _ refl _ (reader-answers p bytes), λ m. accepted-or 1 17 _ refl _ (writer-answers p m))
+
+module _ (p : Plan) (t : Tables) (e : List ℕ) where
+  -- an accepted call: the action, the sent message, the answered slot and every byte of the four tables
+  pub demand-2-acts : Accepted (recordStep p t e .answer) → Acted p t e (recordStep p t e .answer) (recordStep p t e .tables)
+  demand-2-acts (sent, is) = record-acts p t e sent is
+
+  -- so it sets what the action sets; and a receipt copies a message to its leader's inbox
+  pub demand-2-sets : Accepted (recordStep p t e .answer) → Action p t e (recordState p t) (recordState p (recordStep p t e .tables))
+  demand-2-sets taken = action-acted p t e _ _ (demand-2-acts taken)
+
+  pub demand-2-copies : Accepted (recordStep p t e .answer) → kindOf e ≡ 4 → Copies p t e (recordStep p t e .tables)
+  demand-2-copies taken = copies-acted p t e _ _ (demand-2-acts taken)
+
+  -- exactly when; row 12 is that the action is not enabled, the others are document 01's extra refusals
+  pub demand-2 : Accepted (recordStep p t e .answer)
+      ↔ (Enabled p (Action p t e) (recordState p t) × ((k : ℕ) → (k ≡ 12 → ⊥) → Applies (recordRows p t e) k → ⊥))
+  demand-2 = (
+    (λ taken. ((recordState p (recordStep p t e .tables), demand-2-sets taken), λ k other. record-answers p t e .accepts .0 taken k)),
+    λ (able, others). record-answers p t e .accepts .1 (enabled-no-row p t e able others),
+  )
+
+pub demand-3 : (p : Plan) (t : Tables) → Fresh t → (calls : List Call) → AfterEach p (Safe p) t calls
+demand-3 = Safety.demand-3
+
+-- the form of a message is `bytesOf`; the writer gives it, with zeros after it, and 0 as its number
+module _ (p : Plan) (m : Message) where
+  pub byte-form : (bytes : List ℕ)
+      → (readMessage p bytes ≡ accepted m) ↔ ((isPlan p ≡ true) × (isInRange p m ≡ true) × (bytes ≡ bytesOf p m))
+  byte-form bytes = (
+    (λ e. let f = readMessage-form p bytes m e in (f .plan, f .inRange, f .bytes-form)),
+    λ (plan, range, is). rw is (readMessage-bytesOf p m plan range),
+  )
+
+  pub byte-form-written : (writeMessage p m .number ≡ 0)
+      ↔ ((isPlan p ≡ true) × (isInRange p m ≡ true) × (take (writeMessage p m .len) (writeMessage p m .bytes) ≡ bytesOf p m))
+  byte-form-written = (
+    (λ e. let (plan, range) = writes p m e in (plan, range, form-accepted p m plan range)),
+    λ (plan, range, is). rw (writeMessage-accepted p m plan range),
+  )

@@ -1,0 +1,1 @@
+// No code: the demands, stated side by side.
