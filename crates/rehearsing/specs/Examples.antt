@@ -1,0 +1,71 @@
+-- Document 01's example ("The rehearsal") and others, by computation.
+--     document-01       its input and its seven lines
+--     Example, examples, examples-hold     cut and bad plans, no events, a cut event, the words, and the largest plan
+-- Assumes nothing.
+use Prim.Native.Nat.{ℕ}
+use mathlib.Core.List.{List, [], _∷_, map}
+use mathlib.Core.Path.{_≡_, refl}
+use Rattle.message.specs.Outcome.{andThen, refuseIf}
+use Rattle.message.specs.Plan.{isPlan, isCount}
+use Rattle.message.specs.Form.{isValue, isVote, isInRange, bytesOf, bytesOf1b, messageLength, slotOf, mapLengths, mapLength, fieldsMessage, decode}
+use Rattle.message.specs.Codec.{readMessage}
+use Rattle.slots.specs.All.{all}
+use Rattle.slots.specs.Table.{isTableLength, slotsUpTo, slots, isZero, readSlot, readTable, allUnused, isOrdered, isTable, usedMessages, messages, sameBytes, storeAt}
+use Rattle.slots.specs.Send.{sameMessage, placeFrom, placeIn, messageAt}
+use Rattle.slots.specs.View.{sending}
+use Rattle.event.specs.Event.{slotNumber, whoLimit, areZero, areArguments, isEvent}
+use Rattle.rm.specs.Rm.{areStates, rmJudged, rmChoose, rmReceiveDecision, rmReceive, rmKind, rmVerdict, rmStep}
+use Rattle.votes.specs.Votes.{isVoteState, areVotes}
+use Rattle.acceptor.specs.Acceptor.{voteAt, voteOf, phase1b, phase2b, acceptorJudged, acceptorReceive, acceptorVerdict, acceptorStep}
+use Rattle.quorum.specs.Quorum.{countAcceptors, isMajority, isQuorum}
+use Rattle.inbox.specs.Inbox.{any, is1b, is2a, is2b, higher, reportOf, highestReport, proposal, chosen, isChosen2b, decided, forAll, forSome}
+use Rattle.leader.specs.Leader.{owns, leaderJudged, receiptStore, receipt, phase1a, phase2aMessage, keepOwn, sendBoth, phase2a, sendOnly, decideSend, leaderKind, leaderVerdict, leaderStep}
+use Rattle.ending.specs.Ending.{areAll, endingOf}
+use Rattle.record.specs.Record.{inboxSize, areLengths, inboxOf, withInbox, areInboxes, recordJudged, roleStep, recordStep}
+use Rattle.rehearsing.specs.Rehearsal.{ascii, callsIn, freshTables, line, textOf, rehearsed}
+
+abbrev pub input-01 : List ℕ
+input-01 =
+    0x01 ∷ 0x01 ∷ 0x01 ∷ 0x00 ∷ 0x00 ∷ 0x00 ∷ 0x00 ∷ 0x03 ∷ 0x00 ∷ 0x00 ∷ 0x00 ∷ 0x04 ∷ 0x00 ∷ 0x00 ∷ 0x01 ∷ 0x07 ∷ 0x00 ∷ 0x00 ∷ 0x00 ∷ 0x02 ∷ 0x00 ∷ 0x00 ∷ 0x02 ∷ 0x01 ∷ 0x00 ∷ 0x00 ∷ 0x00 ∷ []
+
+pub document-01 : rehearsed input-01 ≡ ascii "0\n0\n0\n0\n0\n12\nCOMMITTED\n"
+unfolding andThen refuseIf isPlan isCount isValue isVote isInRange bytesOf bytesOf1b messageLength slotOf mapLengths mapLength fieldsMessage decode
+    readMessage all isTableLength slotsUpTo slots isZero readSlot readTable allUnused isOrdered isTable usedMessages messages sameBytes storeAt
+    sameMessage placeFrom placeIn messageAt sending slotNumber whoLimit areZero areArguments isEvent areStates rmJudged rmChoose rmReceiveDecision
+    rmReceive rmKind rmVerdict rmStep voteAt isVoteState areVotes acceptorJudged voteOf phase1b phase2b acceptorReceive acceptorVerdict
+    acceptorStep countAcceptors isMajority isQuorum any is1b is2a is2b higher reportOf highestReport proposal chosen isChosen2b decided forAll forSome
+    owns leaderJudged receiptStore receipt phase1a phase2aMessage keepOwn sendBoth phase2a sendOnly decideSend leaderKind leaderVerdict leaderStep
+    inboxSize areLengths inboxOf withInbox areInboxes recordJudged roleStep recordStep areAll endingOf
+    callsIn freshTables line textOf rehearsed
+document-01 = refl
+
+pub record Example : Type 0 where
+  pub input : List ℕ
+  pub prints : List ℕ
+
+unfoldable pub examples : List Example
+examples =
+    record { input = []; prints = ascii "1\n" }
+    ∷ record { input = 0x01 ∷ 0x01 ∷ []; prints = ascii "1\n" }
+    ∷ record { input = 0x00 ∷ 0x01 ∷ 0x01 ∷ 0x00 ∷ 0x00 ∷ 0x00 ∷ 0x00 ∷ []; prints = ascii "1\n" }
+    ∷ record { input = 0x11 ∷ 0x01 ∷ 0x01 ∷ []; prints = ascii "1\n" }
+    ∷ record { input = 0x01 ∷ 0x08 ∷ 0x01 ∷ []; prints = ascii "1\n" }
+    ∷ record { input = 0x01 ∷ 0x01 ∷ 0x05 ∷ []; prints = ascii "1\n" }
+    ∷ record { input = 0x01 ∷ 0x01 ∷ 0x01 ∷ []; prints = ascii "OPEN\n" }
+    ∷ record { input = 0x01 ∷ 0x01 ∷ 0x01 ∷ 0x00 ∷ 0x00 ∷ 0x00 ∷ []; prints = ascii "7\nOPEN\n" }
+    ∷ record { input = 0x01 ∷ 0x01 ∷ 0x01 ∷ 0x00 ∷ 0x00 ∷ 0x00 ∷ 0x00 ∷ 0x00 ∷ []; prints = ascii "0\n7\nOPEN\n" }
+    ∷ record { input = 0x01 ∷ 0x01 ∷ 0x01 ∷ 0x01 ∷ 0x00 ∷ 0x00 ∷ 0x00 ∷ []; prints = ascii "0\nABORTED\n" }
+    ∷ record { input = 0x02 ∷ 0x01 ∷ 0x01 ∷ 0x01 ∷ 0x00 ∷ 0x00 ∷ 0x00 ∷ []; prints = ascii "0\nOPEN\n" }
+    ∷ record { input = 0x10 ∷ 0x07 ∷ 0x04 ∷ 0x00 ∷ 0x0F ∷ 0x00 ∷ 0x00 ∷ 0x03 ∷ 0x06 ∷ 0x00 ∷ 0x00 ∷ 0x04 ∷ 0x03 ∷ 0x00 ∷ 0x01 ∷ []; prints = ascii "0\n0\n0\nOPEN\n" }
+    ∷ []
+
+pub examples-hold : map (λ (e : Example). rehearsed (e .input)) examples ≡ map (λ (e : Example). e .prints) examples
+unfolding examples andThen refuseIf isPlan isCount isValue isVote isInRange bytesOf bytesOf1b messageLength slotOf mapLengths mapLength fieldsMessage decode
+    readMessage all isTableLength slotsUpTo slots isZero readSlot readTable allUnused isOrdered isTable usedMessages messages sameBytes storeAt
+    sameMessage placeFrom placeIn messageAt sending slotNumber whoLimit areZero areArguments isEvent areStates rmJudged rmChoose rmReceiveDecision
+    rmReceive rmKind rmVerdict rmStep voteAt isVoteState areVotes acceptorJudged voteOf phase1b phase2b acceptorReceive acceptorVerdict
+    acceptorStep countAcceptors isMajority isQuorum any is1b is2a is2b higher reportOf highestReport proposal chosen isChosen2b decided forAll forSome
+    owns leaderJudged receiptStore receipt phase1a phase2aMessage keepOwn sendBoth phase2a sendOnly decideSend leaderKind leaderVerdict leaderStep
+    inboxSize areLengths inboxOf withInbox areInboxes recordJudged roleStep recordStep areAll endingOf
+    callsIn freshTables line textOf rehearsed
+examples-hold = refl

@@ -1,0 +1,81 @@
+-- What the rehearsal prints, in document 01's words ("The rehearsal").
+--     plan-short, plan-bad       "A bad or short plan prints only 1"
+--     printed                    else a line for each answer of the event calls, and the word of W after them
+--     opened                     the tables of these calls are those that opening leaves
+--     calls-count                an event for every four bytes, and one for what is left; at most 8,192
+--     rest-ignored               bytes after the last of these events play no part
+--     no-line-11                 no event call of a rehearsal answers 11
+-- Assumes nothing.
+use Prim.Native.Nat.{ℕ, zero, suc, _+_, _-_, _*_, _/_, _≤_, _<_, min}
+use mathlib.Core.Bool.{true, false}
+use mathlib.Core.List.{List, [], _∷_, _++_, List·Memᴰ}
+use mathlib.Core.Path.{_≡_, refl, sym, _∙_, ap}
+use native.Mathlib.Omega.{arith}
+use lib.ListN.{length, drop, length-append, replicate, length-drop, length-replicate, List·getD-append}
+use lib.Seq.{take-append-le, drop-append-le}
+use borrow.Author.Tests.{lt-ltb, le-ltb}
+use Rattle.message.specs.declared.Plan.{Plan}
+use Rattle.message.specs.Outcome.{accepted, refused}
+use Rattle.message.specs.Plan.{isPlan}
+use Rattle.slots.specs.Table.{isTableLength}
+use Rattle.ending.specs.Ending.{endingOf}
+use Rattle.record.specs.Record.{Tables, zeroed, recordOpen}
+use Rattle.safety.specs.Theorems.{Fresh, Call, answers, tablesAfter, never-11}
+use Rattle.rehearsing.specs.Rehearsal.{ascii, planOf, callsIn, freshTables, line, wordOf, linesOf, textOf, rehearsed}
+use Rattle.rehearsing.specs.Rehearsal.Laws.{calls-take, opens}
+
+module _ (input : List ℕ) where
+  pub plan-short : length input < 3 → rehearsed input ≡ ascii "1\n"
+  unfolding rehearsed line
+  plan-short h = rw (lt-ltb (length input) 3 h)
+
+  module _ (h : 3 ≤ length input) where
+    pub plan-bad : isPlan (planOf input) ≡ false → rehearsed input ≡ ascii "1\n"
+    unfolding rehearsed line
+    plan-bad bad = rw (le-ltb (length input) 3 h, bad)
+
+    pub printed : isPlan (planOf input) ≡ true
+        → rehearsed input
+        ≡ linesOf (answers (planOf input) (freshTables 1024 (planOf input)) (callsIn 8192 (drop 3 input)))
+        ++ wordOf (endingOf (tablesAfter (planOf input) (freshTables 1024 (planOf input)) (callsIn 8192 (drop 3 input)) .states))
+    unfolding rehearsed textOf
+    printed good = rw (le-ltb (length input) 3 h, good)
+
+zeros : (n : ℕ) → replicate n 0 ≡ zeroed (replicate n 0)
+unfolding zeroed
+zeros n = rw (length-replicate {A = ℕ} n 0)
+
+module _ (p : Plan) where
+  fresh : (slots : ℕ) → Fresh (freshTables slots p)
+  unfolding freshTables
+  fresh slots = (zeros (p .rms), zeros (3 * (p .rms * p .acceptors)), zeros (6 * slots), zeros (p .leaders * (6 * slots)))
+
+  pub opened : isPlan p ≡ true → (t : Tables)
+      → length (t .states) ≡ p .rms → length (t .votes) ≡ 3 * (p .rms * p .acceptors)
+      → length (t .network) ≡ 6 * 1024 → length (t .inboxes) ≡ p .leaders * (6 * 1024)
+      → (recordOpen p t .answer ≡ accepted tt) × (recordOpen p t .tables ≡ freshTables 1024 p)
+  unfolding isTableLength
+  opened plan t w q n i = rw (opens p 1024 plan refl t w q n i) (refl, refl)
+
+  pub no-line-11 : (slots : ℕ) (calls : List Call) → List·Memᴰ (refused 11) (answers p (freshTables slots p) calls) → ⊥
+  no-line-11 slots = never-11 p (freshTables slots p) (fresh slots)
+
+pub calls-count : (most : ℕ) (bytes : List ℕ) → length (callsIn most bytes) ≡ min most ((length bytes + 3) / 4)
+unfolding callsIn
+calls-count zero bytes = omega arith
+calls-count (suc k) [] = omega arith
+calls-count (suc k) (x ∷ xs) = let h = calls-count k (drop 3 xs) in let l = length-drop 3 xs in omega arith
+
+pub rest-ignored : (input more : List ℕ) → length input ≡ 32771 → rehearsed (input ++ more) ≡ rehearsed input
+unfolding rehearsed
+rest-ignored input more size =
+    let long = length-append input more in
+    let calls : callsIn 8192 (drop 3 (input ++ more)) ≡ callsIn 8192 (drop 3 input) =
+    ap (callsIn 8192) (drop-append-le 3 input more (omega arith))
+    ∙ sym (calls-take 8192 (drop 3 input ++ more))
+    ∙ ap (callsIn 8192) (take-append-le 32768 (drop 3 input) more (rw (length-drop 3 input) (omega arith)))
+    ∙ calls-take 8192 (drop 3 input) in
+    let n = List·getD-append input more 0 0 (omega arith) in
+    let a = List·getD-append input more 0 1 (omega arith) in
+    let l = List·getD-append input more 0 2 (omega arith) in
+    rw (le-ltb (length (input ++ more)) 3 (omega arith), le-ltb (length input) 3 (omega arith), n, a, l, calls)
