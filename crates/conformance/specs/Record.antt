@@ -16,6 +16,7 @@ pub mod Slots
 pub mod Inboxes
 pub mod Roles
 pub mod Words
+pub mod Determined
 use Prim.Native.Nat.{ℕ, zero, suc, _+_, _*_, _%_, _≤_, _<_}
 use mathlib.Core.Bool.{true, false}
 use mathlib.Core.List.{List, [], _++_}

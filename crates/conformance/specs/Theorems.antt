@@ -5,6 +5,7 @@
 --     record-keeps       a refused call leaves the four tables as they were
 --     record-acts        an accepted call sets what the published action sets in rmState, aState and msgs together; the sent message, the
 --                        answered slot, the one inbox and all other bytes are given
+--     acted-one          and nothing is left open: what record-acts says holds of one answer and of one record alone
 --     record-slot, role-slots     an answered slot is one of N's, below 1,024
 --     record-inboxes     an event call changes no inbox but that of its own leader
 --     record-sound       a sound record stays sound
@@ -19,7 +20,7 @@ use mathlib.Core.Logic.{_⊎_}
 use mathlib.Core.Path.{_≡_, refl, ap}
 use lib.ListN.{length, replicate}
 use Rattle.message.specs.declared.Plan.{Plan}
-use Rattle.message.specs.Outcome.{accepted, refused}
+use Rattle.message.specs.Outcome.{Outcome, accepted, refused}
 use Rattle.message.specs.Rows.{end, row, Lowest}
 use Rattle.message.specs.Rows.Laws.{isAscending, lowest-of-ruled}
 use Rattle.message.specs.Plan.{isPlan}
@@ -36,6 +37,7 @@ use Rattle.conformance.specs.Record.Opened as Opened
 use Rattle.conformance.specs.Record.Steps.{keeps, stays-sound}
 use Rattle.matching.specs.Call.{roomOf}
 use Rattle.conformance.specs.Record.Acts.{acts}
+use Rattle.conformance.specs.Record.Determined as Determined
 use Rattle.conformance.specs.Record.Judges.{record-judges, rm-judges, acceptor-judges, leader-judges}
 use Rattle.conformance.specs.Record.Slots.{slot-below, rm-slot, acceptor-slot, leader-slot}
 use Rattle.conformance.specs.Record.Inboxes.{inbox-kept, no-event-record, no-event-rm, no-event-acceptor, no-event-leader}
@@ -51,6 +53,9 @@ module _ (p : Plan) (t : Tables) (e : List ℕ) where
 
   pub record-acts : (sent : Sent) → recordStep p t e .answer ≡ accepted sent → Acted p t e (recordStep p t e .answer) (recordStep p t e .tables)
   record-acts = acts p t e
+
+  pub acted-one : {a b : Outcome Sent} {u v : Tables} → Acted p t e a u → Acted p t e b v → (a ≡ b) × (u ≡ v)
+  acted-one = Determined.acted-one p t e
 
   pub record-slot : (s : ℕ) → recordStep p t e .answer ≡ accepted (Slot s)
       → (s < roomOf (recordStep p t e .tables .network)) × (s < 1024)

@@ -1,5 +1,5 @@
 -- The demands.
---     Action       the published action of an event, what a receipt does, and the answers that a call may give
+--     Answer       what demand 1 says of every call's answer
 --     Theorems     the page: demands 1, 2 and 3 and the byte form, stated in full
-pub mod Action
+pub mod Answer
 pub mod Theorems

@@ -1,11 +1,11 @@
 -- The demands on one page. `recordStep`, `recordOpen`, `rmStep`, `acceptorStep`, `leaderStep`, `readMessage` and `writeMessage` are what the
 -- contracts of the calls equate their answers and tables with, for all tables, bytes and events: no contract has a `requires`, and every call ends.
---     demand-1          an acceptance or one refusal number from document 01; a refusal changes no byte (-opening, -roles, -messages: the other calls)
---     demand-2          accepted exactly where the event's published action is enabled and no row but 12 applies; then what the action sets
---     demand-3          over every list of event calls from a fresh record
---     byte-form         a slice is read as a message exactly where it is the one form of that message
+--     demand-1      an acceptance or one refusal number from document 01, the lowest that applies; a refusal changes no byte
+--     demand-2      accepted exactly where the event's published action is enabled and no other row applies; then what the action sets
+--     demand-3      over every list of event calls from a fresh record
+--     byte-form     a slice is read as a message exactly where it is the one form of that message
 -- Assumes nothing.
-use Prim.Native.Nat.{ℕ}
+use Prim.Native.Nat.{ℕ, _<_}
 use mathlib.Core.Bool.{true}
 use mathlib.Core.List.{List}
 use mathlib.Core.Logic.{_↔_}
@@ -18,24 +18,27 @@ use Rattle.message.specs.Rows.{Applies}
 use Rattle.message.specs.Plan.{isPlan}
 use Rattle.message.specs.Form.{bytesOf, isInRange}
 use Rattle.message.specs.Codec.{readMessage, writeMessage}
-use Rattle.message.specs.Codec.Laws.{readMessage-bytesOf, readMessage-form, writeMessage-accepted}
-use Rattle.message.specs.Codec.Answers.{writes, form-accepted}
-use Rattle.message.specs.Theorems.{answer, reader-answers, writer-answers}
-use Rattle.change.specs.Change.{Step}
+use Rattle.message.specs.Theorems.{answer, reader-answers, writer-answers, read-exactly, written-exactly}
 use Rattle.event.specs.Event.{kindOf}
-use Rattle.paxos_commit.specs.PaxosCommit.{initial}
+use Rattle.paxos_commit.specs.PaxosCommit.{State, initial, PCStep}
 use Rattle.rm.specs.Rm.{rmStep}
 use Rattle.acceptor.specs.Acceptor.{acceptorStep}
 use Rattle.leader.specs.Leader.{leaderStep}
 use Rattle.record.specs.Record.{Tables, recordStep, recordOpen}
+use Rattle.matching.specs.Reading.{isRM, isAcceptor, isMajoritySet}
 use Rattle.matching.specs.Call.{Accepted, Enabled}
 use Rattle.matching.specs.Theorems.{rm-answers, rm-keeps, acceptor-answers, acceptor-keeps, leader-answers, leader-keeps}
 use Rattle.conformance.specs.Record.{recordState, recordRows, Acted}
+use Rattle.conformance.specs.Action.{Action, Copies}
+use Rattle.conformance.specs.Action.Laws.{action-acted, copies-acted, enabled-no-row}
 use Rattle.conformance.specs.Theorems.{record-answers, record-keeps, record-acts, open-answers, open-keeps}
-use Rattle.safety.specs.Theorems.{Fresh, Call, AfterEach, Safe}
 use Rattle.safety.specs.Theorems as Safety
-use Rattle.demands.specs.Action.{AcceptedOr, Action, Copies}
-use Rattle.demands.specs.Action.Laws.{isWithin, accepted-or, action-acted, copies-acted, enabled-no-row}
+use Rattle.safety.specs.Theorems.{Fresh, Call, AfterEach, Safe, tablesAfter}
+use Rattle.safety.specs.Words as Words
+use Rattle.safety.specs.Words.{SafeInWords}
+use Rattle.safety.specs.Behaviour.{action-published}
+use Rattle.demands.specs.Answer.{AcceptedOr, KeepsOwn}
+use Rattle.demands.specs.Answer.Laws.{isWithin, accepted-or}
 
 module _ (p : Plan) (t : Tables) where
   pub demand-1 : (e : List ℕ)
@@ -44,18 +47,18 @@ module _ (p : Plan) (t : Tables) where
   unfolding isWithin
   demand-1 e = (accepted-or 1 14 (recordRows p t e) refl _ (record-answers p t e), record-keeps p t e)
 
+  pub demand-1-lowest : (e : List ℕ) (k : ℕ)
+      → (recordStep p t e .answer ≡ refused k) ↔ (Applies (recordRows p t e) k × ((j : ℕ) → j < k → Applies (recordRows p t e) j → ⊥))
+  demand-1-lowest e = record-answers p t e .refuses
+
   pub demand-1-opening : AcceptedOr 1 2 (recordOpen p t .answer) × ((k : ℕ) → recordOpen p t .answer ≡ refused k → recordOpen p t .tables ≡ t)
   unfolding isWithin
   demand-1-opening = (accepted-or 1 2 _ refl _ (open-answers p t), open-keeps p t)
 
--- what a role's own call answers, and that a refusal leaves its table and N
-abbrev pub Refuses : List ℕ → List ℕ → Step → Type 0
-Refuses table network s = AcceptedOr 1 14 (s .answer) × ((k : ℕ) → s .answer ≡ refused k → (s .table ≡ table) × (s .network ≡ network))
-
 pub demand-1-roles : (p : Plan) (table network e : List ℕ)
-    → Refuses table network (rmStep p table network e)
-    × Refuses table network (acceptorStep p table network e)
-    × Refuses table network (leaderStep p table network e)
+    → KeepsOwn table network (rmStep p table network e)
+    × KeepsOwn table network (acceptorStep p table network e)
+    × KeepsOwn table network (leaderStep p table network e)
 unfolding isWithin
 demand-1-roles p table network e = (
   (accepted-or 1 14 _ refl _ (rm-answers p table network e (λ i a. initial)), rm-keeps p table network e),
@@ -66,8 +69,7 @@ demand-1-roles p table network e = (
 -- the reader and the writer are lent nothing
 pub demand-1-messages : (p : Plan) → ((bytes : List ℕ) → AcceptedOr 1 17 (readMessage p bytes)) × ((m : Message) → AcceptedOr 1 17 (answer (writeMessage p m)))
 unfolding isWithin
-demand-1-messages p =
-    (λ bytes. accepted-or 1 17 _ refl _ (reader-answers p bytes), λ m. accepted-or 1 17 _ refl _ (writer-answers p m))
+demand-1-messages p = (λ b. accepted-or 1 17 _ refl _ (reader-answers p b), λ m. accepted-or 1 17 _ refl _ (writer-answers p m))
 
 module _ (p : Plan) (t : Tables) (e : List ℕ) where
   -- an accepted call: the action, the sent message, the answered slot and every byte of the four tables
@@ -89,21 +91,26 @@ module _ (p : Plan) (t : Tables) (e : List ℕ) where
     λ (able, others). record-answers p t e .accepts .1 (enabled-no-row p t e able others),
   )
 
-pub demand-3 : (p : Plan) (t : Tables) → Fresh t → (calls : List Call) → AfterEach p (Safe p) t calls
-demand-3 = Safety.demand-3
+module _ (p : Plan) (t : Tables) (fresh : Fresh t) (calls : List Call) where
+  pub demand-3 : AfterEach p (Safe p) t calls
+  demand-3 = Safety.demand-3 p t fresh calls
+
+  -- the same in the numbers of document 01
+  pub demand-3-words : AfterEach p (SafeInWords p) t calls
+  demand-3-words = Words.demand-3-words p t fresh calls
+
+  -- and after such a list what an accepted event's action sets is a step of the published module, with every condition read from N
+  pub demand-2-published : (e : List ℕ) → Accepted (recordStep p (tablesAfter p t calls) e .answer)
+      → (s′ : State) → Action p (tablesAfter p t calls) e (recordState p (tablesAfter p t calls)) s′
+      → PCStep (isRM p) (isAcceptor p) (isMajoritySet p) (recordState p (tablesAfter p t calls)) s′
+  demand-2-published = action-published p t fresh calls
 
 -- the form of a message is `bytesOf`; the writer gives it, with zeros after it, and 0 as its number
 module _ (p : Plan) (m : Message) where
   pub byte-form : (bytes : List ℕ)
       → (readMessage p bytes ≡ accepted m) ↔ ((isPlan p ≡ true) × (isInRange p m ≡ true) × (bytes ≡ bytesOf p m))
-  byte-form bytes = (
-    (λ e. let f = readMessage-form p bytes m e in (f .plan, f .inRange, f .bytes-form)),
-    λ (plan, range, is). rw is (readMessage-bytesOf p m plan range),
-  )
+  byte-form = read-exactly p m
 
   pub byte-form-written : (writeMessage p m .number ≡ 0)
       ↔ ((isPlan p ≡ true) × (isInRange p m ≡ true) × (take (writeMessage p m .len) (writeMessage p m .bytes) ≡ bytesOf p m))
-  byte-form-written = (
-    (λ e. let (plan, range) = writes p m e in (plan, range, form-accepted p m plan range)),
-    λ (plan, range, is). rw (writeMessage-accepted p m plan range),
-  )
+  byte-form-written = written-exactly p m

@@ -4,8 +4,9 @@
 --     Applies          some row with this number applies
 --     Lowest           the answer is refused with k exactly where row k applies and none with a lower number does, and accepted exactly
 --                      where no row applies
--- Its laws are in Rows/Laws.antt. Assumes nothing.
+-- Its laws are in Rows/Laws.antt and Rows/Named.antt. Assumes nothing.
 pub mod Laws
+pub mod Named
 use Prim.Native.Nat.{ℕ, _<_}
 use mathlib.Core.Logic.{_↔_}
 use mathlib.Core.Path.{_≡_}

@@ -9,21 +9,29 @@
 --     written-of-read     a slice that is read is exactly what the writer gives for what was read
 --     one-message         two messages with the same bytes are one
 --     one-form            no message has two forms
+--     read-exactly, written-exactly     read as a message exactly where the plan and the message are in range and the bytes are its form; likewise written
+--     fields, joined      a message's fields in the order of the map's bits; one list after the other
+--     map-rule            bit k of the map stands exactly where field k is there
+--     fields-rule         the bytes after the map are the fields that are there, in this order
 -- Assumes nothing.
-use Prim.Native.Nat.{ℕ, _-_}
-use mathlib.Core.Bool.{false, cond}
-use mathlib.Core.List.{List}
-use mathlib.Core.Logic.{_⊎_}
+use Prim.Native.Nat.{ℕ, zero, suc, _-_, _/_, _%_, _^_, _<_}
+use mathlib.Core.Bool.{true, false, cond}
+use mathlib.Core.List.{List, [], _∷_, _++_}
+use mathlib.Core.Logic.{_⊎_, _↔_}
 use mathlib.Core.Path.{_≡_, refl, sym, _∙_, ap}
+use native.Mathlib.Omega.{arith}
 use lib.Dec.{eqb}
 use lib.ListN.{length, getD, take, drop, replicate}
 use Rattle.message.specs.declared.Plan.{Plan}
+use Rattle.message.specs.declared.Vote.{Vote}
+use Rattle.message.specs.declared.Vote.the-variants.{None, Cast}
 use Rattle.message.specs.declared.Message.{Message}
+use Rattle.message.specs.declared.Message.the-variants.{Phase1a, Phase1b, Phase2a, Phase2b, Decision}
 use Rattle.message.specs.declared.Written.{Written}
 use Rattle.message.specs.Outcome.{Outcome, accepted, refused}
 use Rattle.message.specs.Plan.{isPlan}
-use Rattle.message.specs.Form.{slotSize, bytesOf, mapLength, decode, isInRange}
-use Rattle.message.specs.Form.Laws.{decode-bytesOf}
+use Rattle.message.specs.Form.{slotSize, bytesOf, bytesOf1b, mapLength, decode, isInRange}
+use Rattle.message.specs.Form.Laws.{messageCases, decode-bytesOf}
 use Rattle.message.specs.Codec.{readMessage, writeMessage}
 use Rattle.message.specs.Rows.{Rows, end, row, Lowest}
 use Rattle.message.specs.Rows.Laws.{isAscending, lowest-of-ruled}
@@ -84,3 +92,57 @@ one-message p m m′ e = sym (decode-bytesOf p m) ∙ ap decode e ∙ decode-byt
 
 pub one-form : (p : Plan) (bytes bytes′ : List ℕ) (m : Message) → readMessage p bytes ≡ accepted m → readMessage p bytes′ ≡ accepted m → bytes ≡ bytes′
 one-form p bytes bytes′ m e e′ = readMessage-form p bytes m e .bytes-form ∙ sym (readMessage-form p bytes′ m e′ .bytes-form)
+
+module _ (p : Plan) (m : Message) where
+  pub read-exactly : (bytes : List ℕ) → (readMessage p bytes ≡ accepted m) ↔ ((isPlan p ≡ true) × (isInRange p m ≡ true) × (bytes ≡ bytesOf p m))
+  read-exactly bytes = (
+    (λ e. let f = readMessage-form p bytes m e in (f .plan, f .inRange, f .bytes-form)),
+    λ (plan, range, is). rw is (readMessage-bytesOf p m plan range),
+  )
+
+  pub written-exactly : (writeMessage p m .number ≡ 0) ↔ ((isPlan p ≡ true) × (isInRange p m ≡ true) × (form (writeMessage p m) ≡ bytesOf p m))
+  written-exactly = (
+    (λ e. let (plan, range) = writes p m e in (plan, range, form-accepted p m plan range)),
+    λ (plan, range, is). rw (writeMessage-accepted p m plan range),
+  )
+
+-- ins, acc, mbal, bal and val, the fields of bits 0 to 4: one byte each, none where the message has no such field
+abbrev pub fields1b : ℕ → ℕ → ℕ → Vote → List (List ℕ)
+fields1b ins acc mbal None = (ins ∷ []) ∷ (acc ∷ []) ∷ (mbal ∷ []) ∷ [] ∷ [] ∷ []
+fields1b ins acc mbal (Cast bal val) = (ins ∷ []) ∷ (acc ∷ []) ∷ (mbal ∷ []) ∷ (bal ∷ []) ∷ (val ∷ []) ∷ []
+
+abbrev pub fields : Message → List (List ℕ)
+fields (Phase1a ins bal) = (ins ∷ []) ∷ [] ∷ [] ∷ (bal ∷ []) ∷ [] ∷ []
+fields (Phase1b ins acc mbal vote) = fields1b ins acc mbal vote
+fields (Phase2a ins bal val) = (ins ∷ []) ∷ [] ∷ [] ∷ (bal ∷ []) ∷ (val ∷ []) ∷ []
+fields (Phase2b ins acc bal val) = (ins ∷ []) ∷ (acc ∷ []) ∷ [] ∷ (bal ∷ []) ∷ (val ∷ []) ∷ []
+fields (Decision val) = [] ∷ [] ∷ [] ∷ [] ∷ (val ∷ []) ∷ []
+
+abbrev pub joined : List (List ℕ) → List ℕ
+joined [] = []
+joined (list ∷ lists) = list ++ joined lists
+
+-- what holds at 0 to 4 holds below 5
+below-five : (P : ℕ → Type 0) → P 0 → P 1 → P 2 → P 3 → P 4 → (k : ℕ) → k < 5 → P k
+below-five P a b c d e zero h = a
+below-five P a b c d e (suc zero) h = b
+below-five P a b c d e (suc (suc zero)) h = c
+below-five P a b c d e (suc (suc (suc zero))) h = d
+below-five P a b c d e (suc (suc (suc (suc zero)))) h = e
+below-five P a b c d e (suc (suc (suc (suc (suc k))))) h = absurd (omega arith)
+
+pub map-rule : (p : Plan) (m : Message)
+    → (getD (bytesOf p m) 0 0 < 32) × ((k : ℕ) → k < 5 → getD (bytesOf p m) 0 0 / 2 ^ k % 2 ≡ length (getD (fields m) k []))
+unfolding bytesOf bytesOf1b
+map-rule p =
+    messageCases _
+    (λ i b. (omega arith, below-five _ refl refl refl refl refl))
+    (λ i a m. (omega arith, below-five _ refl refl refl refl refl))
+    (λ i a m b v. (omega arith, below-five _ refl refl refl refl refl))
+    (λ i b v. (omega arith, below-five _ refl refl refl refl refl))
+    (λ i a b v. (omega arith, below-five _ refl refl refl refl refl))
+    (λ v. (omega arith, below-five _ refl refl refl refl refl))
+
+pub fields-rule : (p : Plan) (m : Message) → drop 1 (bytesOf p m) ≡ joined (fields m)
+unfolding bytesOf bytesOf1b
+fields-rule p = messageCases _ (λ i b. refl) (λ i a m. refl) (λ i a m b v. refl) (λ i b v. refl) (λ i a b v. refl) (λ v. refl)

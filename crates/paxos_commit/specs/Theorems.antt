@@ -6,13 +6,16 @@
 --     agreement-2a, agreement-2b  what a majority has voted for at a ballot is what every 2a and every 2b there and at later ballots carries
 --     one-value-chosen            no instance chooses two values
 --     one-decision                Commit and Abort are never both sent
+--     next-cases                  PCNext is these nine actions, each in its ranges, and no other
 -- Assumes nothing.
-use Prim.Native.Nat.{ℕ, _≤_}
+use Prim.Native.Nat.{ℕ, _≤_, _<_}
 use mathlib.Core.Bool.{Bool, true}
+use mathlib.Core.Logic.{inl, inr}
 use mathlib.Core.Path.{_≡_}
 use Rattle.tcommit.specs.TCommit.{TCTypeOK, TCConsistent, TCSpec}
 use Rattle.tcommit.specs.TCommit.Laws.{tc-safe}
-use Rattle.paxos_commit.specs.PaxosCommit.{Val, phase2a, phase2b, Commit, Abort, State, MajoritiesMeet, PCTypeOK, Decided, PCSpec}
+use Rattle.paxos_commit.specs.PaxosCommit.{Val, phase2a, phase2b, Commit, Abort, State, MajoritiesMeet, PCTypeOK, Decided, PCNext, PCSpec}
+use Rattle.paxos_commit.specs.PaxosCommit as Module
 use Rattle.paxos_commit.specs.PaxosCommit.Safety.Agreement.{type-ok, chosen-2a, chosen-2b, one-chosen, never-both}
 use Rattle.paxos_commit.specs.PaxosCommit.Safety.Histories.{inv-run, tc-run}
 
@@ -43,3 +46,26 @@ module _ (RM Acceptor : ℕ → Type 0) (Majority : (ℕ → Bool) → Type 0) (
 
   pub one-decision : (t : ℕ) → state t .msgs Commit → state t .msgs Abort → ⊥
   one-decision t = never-both (inv-run meet state spec t) meet
+
+-- what follows from each action follows from PCNext
+module _ (RM Acceptor : ℕ → Type 0) (Majority : (ℕ → Bool) → Type 0) (s s′ : State) where
+  pub next-cases : {P : Type 0}
+      → ((rm : ℕ) → RM rm → Module.RMPrepare RM Acceptor Majority rm s s′ → P)
+      → ((rm : ℕ) → RM rm → Module.RMChooseToAbort RM Acceptor Majority rm s s′ → P)
+      → ((rm : ℕ) → RM rm → Module.RMRcvCommitMsg RM Acceptor Majority rm s s′ → P)
+      → ((rm : ℕ) → RM rm → Module.RMRcvAbortMsg RM Acceptor Majority rm s s′ → P)
+      → ((bal rm : ℕ) → RM rm → 0 < bal → Module.Phase1a RM Acceptor Majority bal rm s s′ → P)
+      → ((bal rm : ℕ) → RM rm → 0 < bal → Module.Phase2a RM Acceptor Majority bal rm s s′ → P)
+      → (Module.Decide RM Acceptor Majority s s′ → P)
+      → ((acc : ℕ) → Acceptor acc → Module.Phase1b RM Acceptor Majority acc s s′ → P)
+      → ((acc : ℕ) → Acceptor acc → Module.Phase2b RM Acceptor Majority acc s s′ → P)
+      → PCNext RM Acceptor Majority s s′ → P
+  next-cases prepare choose commit abort begin propose decide promise vote (inl (rm, q, inl h)) = prepare rm q h
+  next-cases prepare choose commit abort begin propose decide promise vote (inl (rm, q, inr (inl h))) = choose rm q h
+  next-cases prepare choose commit abort begin propose decide promise vote (inl (rm, q, inr (inr (inl h)))) = commit rm q h
+  next-cases prepare choose commit abort begin propose decide promise vote (inl (rm, q, inr (inr (inr h)))) = abort rm q h
+  next-cases prepare choose commit abort begin propose decide promise vote (inr (inl (bal, rm, q, l, inl h))) = begin bal rm q l h
+  next-cases prepare choose commit abort begin propose decide promise vote (inr (inl (bal, rm, q, l, inr h))) = propose bal rm q l h
+  next-cases prepare choose commit abort begin propose decide promise vote (inr (inr (inl h))) = decide h
+  next-cases prepare choose commit abort begin propose decide promise vote (inr (inr (inr (acc, k, inl h)))) = promise acc k h
+  next-cases prepare choose commit abort begin propose decide promise vote (inr (inr (inr (acc, k, inr h)))) = vote acc k h

@@ -2,6 +2,7 @@
 -- record is a behaviour of PCSpec, so the theorems of document 001 (paxos_commit's Theorems.antt) hold of it.
 --     Published              one event call: an accepted one is an action of PCNext, a receipt apart; a receipt and a refused call leave W, Q and N
 --     record-published       every event call after every list of calls
+--     action-published       and every step that `Action` allows an accepted event: demand 2's actions are those of the module
 --     stateAt                the state at time n: what the first n calls of a list leave
 --     record-behaviour       it is a behaviour of PCSpec
 --     record-commits         so W is one of TCSpec
@@ -22,9 +23,11 @@ use Rattle.paxos_commit.specs.Theorems.{paxos-commit-implements, one-decision}
 use Rattle.record.specs.Record.{Tables, recordStep}
 use Rattle.matching.specs.Reading.{isRM, isAcceptor, isMajoritySet, rmStateOf, aStateOf}
 use Rattle.matching.specs.Theorems.{majorities-meet}
+use Rattle.matching.specs.Call.{Accepted}
 use Rattle.conformance.specs.Record.{recordState}
+use Rattle.conformance.specs.Action.{Action}
 use Rattle.safety.specs.Grounds.{sentIn, Unchanged}
-use Rattle.safety.specs.Grounds.Steps.{Used, used-zeros, used-event, published-event, kept-event}
+use Rattle.safety.specs.Grounds.Steps.{Used, used-zeros, used-event, published-event, action-event, kept-event}
 use Rattle.safety.specs.Theorems.{Fresh, Call, event, tablesAfter, fresh-initial}
 
 -- the event call e on the tables t, as module PaxosCommit sees it
@@ -83,6 +86,13 @@ module _ (p : Plan) (t : Tables) (fresh : Fresh t) (calls : List Call) where
 
   pub record-published : (e : List ℕ) → Published p (tablesAfter p t calls) e
   record-published e = published p (tablesAfter p t calls) e (used-after p t used-fresh calls)
+
+  pub action-published : (e : List ℕ) → Accepted (recordStep p (tablesAfter p t calls) e .answer)
+      → (s′ : State) → Action p (tablesAfter p t calls) e (recordState p (tablesAfter p t calls)) s′
+      → PCStep (isRM p) (isAcceptor p) (isMajoritySet p) (recordState p (tablesAfter p t calls)) s′
+  action-published e (sent, is) s′ a =
+      ⊎-elim (λ (other, next). inl next) (λ (kind, row, states, msgs). inr (row, states, msgs))
+      (action-event p (tablesAfter p t calls) e (used-after p t used-fresh calls) sent is s′ a)
 
   pub record-behaviour : PCSpec (isRM p) (isAcceptor p) (isMajoritySet p) (stateAt p t calls)
   record-behaviour = (fresh-initial p t fresh, steps p t used-fresh calls)

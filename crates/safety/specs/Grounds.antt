@@ -4,11 +4,10 @@
 --     Unchanged          the tables that hold that state keep their bytes
 --     Grounded           the invariant, and what the inboxes have to do with N
 -- Below: Opened.antt, a record of zeros; Inboxes.antt and Kept.antt, each event keeps it; Published.antt, each event is a step of module
--- PaxosCommit; Moves.antt, what becomes of W; Contradicted.antt, no decision contradicts; Steps.antt, one event call. Laws that these use: Zeros.antt, Stored.antt, Row.antt.
+-- PaxosCommit; Moves.antt, what becomes of W; Contradicted.antt, no decision contradicts; Steps.antt, one event call. Laws that these use: Zeros.antt, Stored.antt.
 -- Assumes nothing.
 pub mod Zeros
 pub mod Stored
-pub mod Row
 pub mod Opened
 pub mod Inboxes
 pub mod Kept

@@ -3,10 +3,11 @@
 --     OneStep            one step on a row of n weights: one weight changes, from 0 to 1; from 1 to 2 if every weight is 1 or 2; from 0 or 1 to 3
 --                        if none is 2
 --     step-words         what `Safe` calls a step of Transaction Commit is such a step
---     demand-3-words     after each call of every list from a fresh record W is as before the call, or one such step further
+--     SafeInWords        W is as before the call, or one such step further; it does not hold both a 2 and a 3; the answer is not 11
+--     demand-3-words     so it is after each call of every list from a fresh record
 -- Assumes nothing.
-use Prim.Native.Nat.{ℕ, _<_}
-use mathlib.Core.List.{List, [], _∷_}
+use Prim.Native.Nat.{ℕ, zero, suc, _<_}
+use mathlib.Core.List.{List, [], _∷_, List·Memᴰ, List·Memᴰ·head, List·Memᴰ·tail}
 use mathlib.Core.Logic.{_⊎_, inl, inr, ⊎-elim}
 use mathlib.Core.Path.{_≡_, refl, sym, _∙_, ap}
 use native.Mathlib.Decide.{decLt}
@@ -14,6 +15,7 @@ use native.Mathlib.Omega.{arith}
 use lib.ListN.{length, getD, set, length-set, List·getD-eq-default}
 use lib.Seq.{ext-getD, getD-set-same, getD-set-other}
 use Rattle.message.specs.declared.Plan.{Plan}
+use Rattle.message.specs.Outcome.{refused}
 use Rattle.tcommit.specs.TCommit.{except, TCNext}
 use Rattle.tcommit.specs.TCommit.Laws.{except-cases, except-here}
 use Rattle.record.specs.Record.{Tables, RecordStep}
@@ -52,9 +54,18 @@ step-words p W W′ size (i, rm, inl (works, e)) = (i, 1, rm, changed W W′ siz
 step-words p W W′ size (i, rm, inr (inl (ready, all, e))) = (i, 2, rm, changed W W′ size i 2 (omega arith) e, inr (inl (ready, refl, all)))
 step-words p W W′ size (i, rm, inr (inr (undecided, none, e))) = (i, 3, rm, changed W W′ size i 3 (omega arith) e, inr (inr (undecided, refl, none)))
 
--- W after the call is W before it, or one step further
-abbrev pub SameOrStep : Plan → Tables → RecordStep → Type 0
-SameOrStep p t r = (r .tables .states ≡ t .states) ⊎ OneStep (p .rms) (t .states) (r .tables .states)
+-- a call that was given the tables t
+abbrev pub SafeInWords : Plan → Tables → RecordStep → Type 0
+SafeInWords p t r =
+    ((r .tables .states ≡ t .states) ⊎ OneStep (p .rms) (t .states) (r .tables .states))
+    × ((i j : ℕ) → getD (r .tables .states) i 0 ≡ 2 → getD (r .tables .states) j 0 ≡ 3 → ⊥)
+    × (r .answer ≡ refused 11 → ⊥)
+
+-- a number at a place of W that is not 0 is one of W
+member-at : (W : List ℕ) (i v : ℕ) → 0 < v → getD W i 0 ≡ v → List·Memᴰ v W
+member-at [] i v some e = absurd (omega arith)
+member-at (x ∷ W) zero v some e = List·Memᴰ·head (sym e)
+member-at (x ∷ W) (suc i) v some e = List·Memᴰ·tail (member-at W i v some e)
 
 -- what holds of each call implies what follows from it of each call
 each-of-each : (p : Plan) (P Q : Tables → RecordStep → Type 0) → ((t : Tables) (r : RecordStep) → P t r → Q t r)
@@ -62,8 +73,12 @@ each-of-each : (p : Plan) (P Q : Tables → RecordStep → Type 0) → ((t : Tab
 each-of-each p P Q next t [] h = tt
 each-of-each p P Q next t (c ∷ cs) h = (next t (made p t c) (h .0), each-of-each p P Q next (made p t c .tables) cs (h .1))
 
-pub demand-3-words : (p : Plan) (t : Tables) → Fresh t → (calls : List Call) → AfterEach p (SameOrStep p) t calls
-demand-3-words p t fresh calls = each-of-each p (Safe p) (SameOrStep p) words t calls (demand-3 p t fresh calls)
+pub demand-3-words : (p : Plan) (t : Tables) → Fresh t → (calls : List Call) → AfterEach p (SafeInWords p) t calls
+demand-3-words p t fresh calls = each-of-each p (Safe p) (SafeInWords p) words t calls (demand-3 p t fresh calls)
   where
-    words : (u : Tables) (r : RecordStep) → Safe p u r → SameOrStep p u r
-    words u r safe = ⊎-elim inl (λ next. inr (step-words p (u .states) (r .tables .states) (safe .same-length) next)) (safe .path)
+    words : (u : Tables) (r : RecordStep) → Safe p u r → SafeInWords p u r
+    words u r safe = (
+      ⊎-elim inl (λ next. inr (step-words p (u .states) (r .tables .states) (safe .same-length) next)) (safe .path),
+      λ i j two three. safe .agreed (member-at (r .tables .states) i 2 (omega arith) two) (member-at (r .tables .states) j 3 (omega arith) three),
+      safe .not-contradicted,
+    )

@@ -14,6 +14,7 @@ use Rattle.message.specs.declared.Message as Wire
 use Rattle.message.specs.Outcome.{Outcome, accepted, refused}
 use Rattle.message.specs.Outcome.Laws.{accepted-not-refused}
 use Rattle.message.specs.Rows.{Either, here, below, Lowest}
+use Rattle.message.specs.Rows.Named.{row-applies, applies-row}
 use Rattle.slots.specs.Table.{messages}
 use Rattle.slots.specs.Send.{messageAt}
 use Rattle.change.specs.declared.Sent.{Sent}
@@ -30,7 +31,6 @@ use Rattle.matching.specs.Rm.{Contradicts}
 use Rattle.matching.specs.Leader.{InboxFull}
 use Rattle.conformance.specs.Record.{ownInbox, recordRows}
 use Rattle.safety.specs.Grounds.{sentIn, Grounded}
-use Rattle.safety.specs.Grounds.Row.{row-applies, applies-row}
 
 module _ (p : Plan) (t : Tables) (e : List ℕ) (answer : Outcome Sent) (rows : Lowest (recordRows p t e) answer) where
   -- a call that refused with a higher number was given an event

@@ -5,6 +5,7 @@
 --     path-event, agreed-used, not-contradicted-event     the three claims of demand 3
 --     length-event           W keeps its length
 --     published-event        an accepted call is an action of PCNext, or a receipt; kept-event: a refused one leaves W, Q and N
+--     action-event           so is every step that the accepted event's `Action` allows
 --     slot-event             what stands in a slot of N stays there; on any tables
 -- Assumes nothing.
 use Prim.Native.Nat.{ℕ}
@@ -23,14 +24,16 @@ use Rattle.tcommit.specs.RmState.{committed, aborted}
 use Rattle.record.specs.Record.{Tables, tablesOf, zeroed, recordJudged, recordStep}
 use Rattle.record.specs.Record.Laws.{Sound, sound, judged}
 use Rattle.matching.specs.Call.{Sends}
-use Rattle.conformance.specs.Record.{Acted}
+use Rattle.paxos_commit.specs.PaxosCommit.{State}
+use Rattle.conformance.specs.Record.{recordState, Acted}
+use Rattle.conformance.specs.Action.{Action}
 use Rattle.conformance.specs.Record.{prepares, chooses-to-abort, receives-commit, receives-abort, promises, casts-vote, receives, opens-ballot, proposes, commits, aborts}
 use Rattle.conformance.specs.Theorems.{record-answers, record-keeps, record-acts, record-sound}
 use Rattle.safety.specs.Grounds.{Unchanged, Grounded}
 use Rattle.safety.specs.Grounds.Stored.{stores-slot}
 use Rattle.safety.specs.Grounds.Opened.{agreed-zeros, messages-none, grounded-zeros}
 use Rattle.safety.specs.Grounds.Kept.{grounded-acted}
-use Rattle.safety.specs.Grounds.Published.{unchanged-of, ActsOrReceives, published-acted}
+use Rattle.safety.specs.Grounds.Published.{unchanged-of, ActsOrReceives, NextOrStays, published-action, published-acted}
 use Rattle.safety.specs.Grounds.Moves.{Path, agreed, path-acted}
 use Rattle.safety.specs.Grounds.Contradicted.{row-14, not-contradicted, not-contradicted-empty}
 
@@ -99,8 +102,13 @@ module _ (p : Plan) (t : Tables) (e : List ℕ) where
 
   pub published-event : Used p t → (sent : Sent) → recordStep p t e .answer ≡ accepted sent
       → ActsOrReceives p t e (recordStep p t e .tables)
-  published-event (inl g) sent is = published-acted p t e _ _ g (record-acts p t e sent is)
+  published-event (inl g) sent is = published-acted p t e g (record-acts p t e sent is)
   published-event (inr i) sent is = absurd (idle-refuses i sent is)
+
+  pub action-event : Used p t → (sent : Sent) → recordStep p t e .answer ≡ accepted sent
+      → (s′ : State) → Action p t e (recordState p t) s′ → NextOrStays p t e s′
+  action-event (inl g) sent is s′ = published-action p t e g s′ (record-acts p t e sent is)
+  action-event (inr i) sent is s′ = λ a. absurd (idle-refuses i sent is)
 
   pub kept-event : (k : ℕ) → recordStep p t e .answer ≡ refused k → Unchanged t (recordStep p t e .tables)
   kept-event k is = unchanged-of t (kept-refused k is)

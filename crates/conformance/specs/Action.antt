@@ -1,11 +1,11 @@
--- What demands 1 and 2 speak of. The theorems are in Theorems.antt, their proofs in Action/Laws.antt.
---     AcceptedOr     an acceptance, or one refusal number from document 01
+-- The published action of an event (demand 2). What is proved of it is in Action/Laws.antt, and stated in the crate demands.
+--     received       what the event's leader has received: its own inbox
 --     ActsOnSlot     the published action of an acceptor on the message in the event's slot
 --     Action         the published action of an event, of each kind
 --     Copies         what a receipt does
 -- The actions are module PaxosCommit's at the plan's constants (crate matching). Assumes nothing.
 pub mod Laws
-use Prim.Native.Nat.{ℕ, _≤_}
+use Prim.Native.Nat.{ℕ}
 use mathlib.Core.Bool.{true}
 use mathlib.Core.List.{List}
 use mathlib.Core.Logic.{_⊎_}
@@ -13,7 +13,6 @@ use mathlib.Core.Path.{_≡_}
 use Rattle.message.specs.declared.Plan.{Plan}
 use Rattle.message.specs.declared.Message as Wire
 use Rattle.message.specs.declared.Message.the-variants.{Phase1a, Phase2a}
-use Rattle.message.specs.Outcome.{Outcome, accepted, refused}
 use Rattle.slots.specs.Table.{messages}
 use Rattle.event.specs.Event.{kindOf, whoOf, highOf, lowOf}
 use Rattle.paxos_commit.specs.PaxosCommit.{State, Message, Commit, Abort, UnchangedMsgs}
@@ -23,12 +22,7 @@ use Rattle.matching.specs.Call.{SlotHolds, Stores}
 use Rattle.matching.specs.Rm.{RMPrepare, RMChooseToAbort, RMRcvCommitMsg, RMRcvAbortMsg}
 use Rattle.matching.specs.Acceptor.{Phase1bAction, Phase2bAction, InSlot}
 use Rattle.matching.specs.Leader.{Phase1aAction, Phase2aAction, CommitAction, AbortAction, isReceived}
 use Rattle.conformance.specs.Record.{ownInbox}
-
--- an acceptance, or one refusal number, from `least` to `most`
-abbrev pub AcceptedOr : {A : Type 0} → ℕ → ℕ → Outcome A → Type 0
-AcceptedOr {A} least most answer =
-    ((a : A) × (answer ≡ accepted a)) ⊎ ((k : ℕ) × (least ≤ k) × (k ≤ most) × (answer ≡ refused k))
 
 -- what the event's leader has received
 abbrev pub received : Plan → Tables → List ℕ → Message → Type 0

@@ -1,22 +1,19 @@
--- Demands 1 and 2 from the theorems of the crates message, matching and conformance.
---     isWithin, accepted-or      rows whose numbers lie in bounds: a call that they rule answers an acceptance or such a number
+-- The action of an event, and what an accepted event call does.
 --     At, action-acted, copies-acted     what an accepted event call sets is its kind's action; what a receipt does
 --     enabled-not-12, enabled-no-row     where the action is enabled, row 12 does not apply
 -- Assumes nothing.
-use Prim.Native.Nat.{ℕ, zero, suc, _≤_}
-use mathlib.Core.Bool.{Bool, true, _&&_}
+use Prim.Native.Nat.{ℕ, zero, suc}
 use mathlib.Core.List.{List}
 use mathlib.Core.Logic.{_⊎_, inl, inr}
-use mathlib.Core.Path.{_≡_, refl, sym, _∙_, ap}
+use mathlib.Core.Path.{_≡_, refl, sym, _∙_}
 use native.Mathlib.Omega.{arith}
-use lib.Dec.{leb}
-use borrow.Author.Tests.{leb-true}
 use Rattle.message.specs.declared.Plan.{Plan}
 use Rattle.message.specs.declared.Message as Wire
 use Rattle.message.specs.declared.Message.the-variants.{Phase1a, Phase2a}
-use Rattle.message.specs.Outcome.{Outcome, accepted, refused}
-use Rattle.message.specs.Outcome.Laws.{both, accepted-inj}
-use Rattle.message.specs.Rows.{Rows, end, guard, Either, here, below, Applies, Lowest}
+use Rattle.message.specs.Outcome.{Outcome}
+use Rattle.message.specs.Outcome.Laws.{accepted-inj}
+use Rattle.message.specs.Rows.{Either, here, below, Applies}
+use Rattle.message.specs.Rows.Named.{row-applies}
 use Rattle.change.specs.declared.Sent.{Sent}
 use Rattle.event.specs.Event.{kindOf, whoOf, highOf, lowOf}
 use Rattle.paxos_commit.specs.PaxosCommit.{State, Commit, Abort, UnchangedMsgs}
@@ -26,31 +23,9 @@ use Rattle.matching.specs.Call.{Enabled, SlotHolds}
 use Rattle.matching.specs.Rm.{RMPrepare, RMChooseToAbort, RMRcvCommitMsg, RMRcvAbortMsg}
 use Rattle.matching.specs.Acceptor.{Phase1bAction, Phase2bAction, InSlot}
 use Rattle.matching.specs.Leader.{Phase1aAction, Phase2aAction, CommitAction, AbortAction}
 use Rattle.conformance.specs.Record.{recordState, recordRows, Disabled, Acted}
 use Rattle.conformance.specs.Record.{prepares, chooses-to-abort, receives-commit, receives-abort, promises, casts-vote, receives, opens-ballot, proposes, commits, aborts}
-use Rattle.safety.specs.Grounds.Row.{row-applies}
-use Rattle.demands.specs.Action.{AcceptedOr, received, ActsOnSlot, Action, Copies}
-
-unfoldable pub isWithin : ℕ → ℕ → Rows → Bool
-isWithin least most end = true
-isWithin least most (guard number applies rest) = leb least number && leb number most && isWithin least most rest
-
-applies-within : (least most : ℕ) (rows : Rows) → isWithin least most rows ≡ true → (k : ℕ) → Applies rows k → (least ≤ k) × (k ≤ most)
-unfolding isWithin
-applies-within least most end in-bounds k h = absurd (h tt)
-applies-within least most (guard n t rest) in-bounds k (here h) =
-    let b = both (leb least n && leb n most) (isWithin least most rest) in-bounds .0 in
-    let c = both (leb least n) (leb n most) b in
-    rw (h .0) (leb-true least n (c .0), leb-true n most (c .1))
-applies-within least most (guard n t rest) in-bounds k (below h) =
-    applies-within least most rest (both (leb least n && leb n most) (isWithin least most rest) in-bounds .1) k h
-
-pub accepted-or : {A : Type 0} (least most : ℕ) (rows : Rows) → isWithin least most rows ≡ true → (answer : Outcome A) → Lowest rows answer
-    → AcceptedOr least most answer
-accepted-or least most rows in-bounds (accepted a) lowest = inl (a, refl)
-accepted-or least most rows in-bounds (refused k) lowest =
-    let (low, high) = applies-within least most rows in-bounds k (lowest .refuses k .0 refl .0) in
-    inr (k, low, high, refl)
+use Rattle.conformance.specs.Action.{received, ActsOnSlot, Action, Copies}
 
 module _ (p : Plan) (t : Tables) (e : List ℕ) where
   module _ (answer : Outcome Sent) (t′ : Tables) where
