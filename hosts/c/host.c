@@ -1,22 +1,22 @@
 /*
- * A small host: opens a record, runs document 01's example on it, feeds it junk, then runs the same order with a host
- * for each role, which share nothing but the messages that they send each other. It prints what each call answered.
- *
- *     cc -std=c11 -O2 -o host host.c -L ../../target/staticlib -lhost_record -lhost_message -lhost_rm -lhost_acceptor
- * -lhost_leader
+ * All calls in one program: opens a record, runs document 01's example on it, feeds it junk, then runs an order with a
+ * host for each role, which share nothing but the messages that they send each other; at last the same order on tables
+ * that are too small, where most calls are refused. It prints what each call answered; hosts/test compares that with
+ * host.stdout. docs/HOSTS.md has the command that builds it.
  */
 #include "paxos_commit.h"
 
 #include <stdio.h>
+#include <stdlib.h>
 #include <string.h>
 
 enum { SLOTS = 16 };
 
 /* What a step answered. */
 static void say(const char *what, uint32_t answer) {
-    if (answer == PAXOS_COMMIT_QUIET)
+    if (answer == PAXOS_COMMIT_ANSWER_QUIET)
         printf("%s: accepted\n", what);
-    else if (answer < PAXOS_COMMIT_REFUSED)
+    else if (answer < PAXOS_COMMIT_ANSWER_REFUSED)
         printf("%s: accepted, sent in slot %u\n", what, (unsigned)answer);
     else
         printf("%s: refused, %u\n", what, (unsigned)paxos_commit_refusal_of(answer));
@@ -116,7 +116,7 @@ static void junk(void) {
     network[17] ^= 1;
     states[0] = 4;
     say("a state above 3", step(prepare, 4));
-    states[0] = PAXOS_COMMIT_COMMITTED;
+    states[0] = PAXOS_COMMIT_STATE_COMMITTED;
     say("no weights in the plan", paxos_commit_step(0, 1, 1, states, sizeof states, votes, sizeof votes, network,
                                                     sizeof network, inboxes, sizeof inboxes, prepare, 4));
     say("a table of another length", paxos_commit_step(1, 1, 1, states, sizeof states, votes, sizeof votes, network, 17,
@@ -125,99 +125,133 @@ static void junk(void) {
 
 /* ---- a host for each role: n = 2, A = 3, L = 1 ---- */
 
-/* A host's own network table: what it sent, and what came to it. */
+enum { RMS = 2, ACCEPTORS = 3, LEADERS = 1 };
+
+typedef uint32_t role_step(uint8_t, uint8_t, uint8_t, uint8_t *, size_t, uint8_t *, size_t, const uint8_t *, size_t);
+
+/* A host: its number, its role's step and table, and an N of its own with what it sent and what came to it. */
 struct host {
-    uint8_t network[PAXOS_COMMIT_NETWORK_SIZE(64)];
+    const char *name;
+    role_step *step;
+    uint8_t *table, *network;
+    size_t table_len, network_len;
+    uint8_t who;
 };
 
-/* What came from the wire goes into the host's table, unless it is there, and its slot is answered: the reader has
- * judged it, so that the table stays sound. -1: refused, or no room. */
-static int deliver(struct host *host, const uint8_t *bytes, size_t len) {
-    uint8_t slot[PAXOS_COMMIT_SLOT] = {0};
-    if (paxos_commit_byte(paxos_commit_read(2, 3, 1, bytes, len), 0) != 0)
-        return -1;
-    memcpy(slot, bytes, len);
-    for (size_t i = 0; i < sizeof host->network; i += PAXOS_COMMIT_SLOT) {
-        if (host->network[i] == 0)
-            memcpy(host->network + i, slot, sizeof slot);
-        if (memcmp(host->network + i, slot, sizeof slot) == 0)
-            return (int)(i / PAXOS_COMMIT_SLOT);
-    }
-    return -1;
-}
-
-/* A sent message as it goes over the wire: the slot's bytes up to its length, by the map's bits. */
-static size_t wire(const struct host *host, uint32_t answer, uint8_t bytes[PAXOS_COMMIT_SLOT]) {
-    size_t len = 1;
-    memcpy(bytes, host->network + PAXOS_COMMIT_SLOT * answer, PAXOS_COMMIT_SLOT);
-    for (unsigned bit = 0; bit < 5; bit++)
-        len += bytes[0] >> bit & 1;
-    return len;
-}
-
-static void hosts(void) {
-    static struct host weight[2], acceptor[3], leader;
-    static uint8_t w[2][2], q[3][PAXOS_COMMIT_VOTES_SIZE(2, 3)], inbox[PAXOS_COMMIT_INBOX_SIZE(64)];
+/* A message on its way; len 0 for none. */
+struct message {
     uint8_t bytes[PAXOS_COMMIT_SLOT];
-    char words[64];
-    for (uint8_t i = 0; i < 2; i++) {
-        const uint8_t prepare[4] = {PAXOS_COMMIT_PREPARE, i, 0, 0};
-        uint32_t answer =
-            paxos_commit_rm_step(2, 3, 1, w[i], sizeof w[i], weight[i].network, sizeof weight[i].network, prepare, 4);
-        /* W is on disk before the 2a leaves. */
-        size_t len = wire(&weight[i], answer, bytes);
-        snprintf(words, sizeof words, "2a of weight %u", i);
-        show(words, bytes, len);
-        for (uint8_t a = 0; a < 3; a++) {
+    size_t len;
+};
+
+/* Zeros, of exactly this length. No pointer that is lent is null, also with length 0. */
+static uint8_t *zeros(size_t len) {
+    uint8_t *bytes = calloc(len == 0 ? 1 : len, 1);
+    if (bytes == NULL)
+        exit(1);
+    return bytes;
+}
+
+static struct host new_host(const char *name, uint8_t who, role_step *step, size_t table_len, size_t slots) {
+    size_t network_len = PAXOS_COMMIT_NETWORK_SIZE(slots);
+    struct host host = {name, step, zeros(table_len), zeros(network_len), table_len, network_len, who};
+    return host;
+}
+
+/* An event of the host; what its step sent, which is none where it is quiet or refused. */
+static struct message act(struct host *host, const char *what, uint8_t kind, uint8_t high, uint8_t low) {
+    struct message sent = {{0}, 0};
+    const uint8_t event[4] = {kind, host->who, high, low};
+    uint32_t answer = host->step(RMS, ACCEPTORS, LEADERS, host->table, host->table_len, host->network,
+                                 host->network_len, event, sizeof event);
+    printf("%s %u ", host->name, host->who);
+    say(what, answer);
+    /* Here the role's table and N go to disk, before what was sent leaves. */
+    sent.len = paxos_commit_sent(host->network, host->network_len, answer, sent.bytes);
+    return sent;
+}
+
+/* What came from the wire: into the host's N, and then an event with its slot. */
+static struct message take(struct host *host, const char *what, uint8_t kind, const struct message *message) {
+    static const struct message none = {{0}, 0};
+    uint32_t slot;
+    if (message->len == 0)
+        return none;
+    slot =
+        paxos_commit_deliver(RMS, ACCEPTORS, LEADERS, host->network, host->network_len, message->bytes, message->len);
+    if (slot >= PAXOS_COMMIT_ANSWER_REFUSED) {
+        printf("%s %u ", host->name, host->who);
+        say("gets a message", slot);
+        return none;
+    }
+    return act(host, what, kind, (uint8_t)(slot >> 8), (uint8_t)slot);
+}
+
+static void hosts(size_t slots) {
+    struct host weight[RMS], acceptor[ACCEPTORS],
+        leader = new_host("leader", 0, paxos_commit_leader_step, PAXOS_COMMIT_INBOX_SIZE(slots), slots);
+    for (uint8_t i = 0; i < RMS; i++)
+        weight[i] = new_host("weight", i, paxos_commit_rm_step, PAXOS_COMMIT_STATES_SIZE(RMS), slots);
+    for (uint8_t a = 0; a < ACCEPTORS; a++)
+        acceptor[a] =
+            new_host("acceptor", a, paxos_commit_acceptor_step, PAXOS_COMMIT_VOTES_SIZE(RMS, ACCEPTORS), slots);
+
+    printf("-- a host for each role; slots in each N and in the inbox: %u\n", (unsigned)slots);
+    for (uint8_t i = 0; i < RMS; i++) {
+        struct message proposal = act(&weight[i], "prepares", PAXOS_COMMIT_KIND_PREPARE, 0, 0);
+        if (proposal.len > 0)
+            show("2a", proposal.bytes, proposal.len);
+        for (uint8_t a = 0; a < ACCEPTORS; a++) {
+            struct message vote, decision;
             if (i == 1 && a == 0)
                 continue; /* lost on the way */
-            int slot = deliver(&acceptor[a], bytes, len);
-            const uint8_t vote[4] = {PAXOS_COMMIT_VOTE, a, (uint8_t)(slot >> 8), (uint8_t)slot};
-            answer = paxos_commit_acceptor_step(2, 3, 1, q[a], sizeof q[a], acceptor[a].network,
-                                                sizeof acceptor[a].network, vote, 4);
-            /* Q is on disk before the 2b leaves. */
-            uint8_t ballot[PAXOS_COMMIT_SLOT];
-            size_t ballot_len = wire(&acceptor[a], answer, ballot);
-            slot = deliver(&leader, ballot, ballot_len);
-            const uint8_t receipt[4] = {PAXOS_COMMIT_RECEIPT, 0, (uint8_t)(slot >> 8), (uint8_t)slot};
-            answer = paxos_commit_leader_step(2, 3, 1, inbox, sizeof inbox, leader.network, sizeof leader.network,
-                                              receipt, 4);
-            snprintf(words, sizeof words, "leader 0 takes acceptor %u's vote on weight %u", a, i);
-            say(words, answer);
-            /* The inbox is on disk before the leader decides. */
-            static const uint8_t commit[4] = {PAXOS_COMMIT_COMMIT, 0, 0, 0};
-            answer = paxos_commit_leader_step(2, 3, 1, inbox, sizeof inbox, leader.network, sizeof leader.network,
-                                              commit, 4);
-            say("leader 0 decides Commit", answer);
-            if (answer < PAXOS_COMMIT_REFUSED) {
-                size_t decision_len = wire(&leader, answer, ballot);
-                for (uint8_t k = 0; k < 2; k++) {
-                    slot = deliver(&weight[k], ballot, decision_len);
-                    const uint8_t take[4] = {PAXOS_COMMIT_TAKE_DECISION, k, (uint8_t)(slot >> 8), (uint8_t)slot};
-                    answer = paxos_commit_rm_step(2, 3, 1, w[k], sizeof w[k], weight[k].network,
-                                                  sizeof weight[k].network, take, 4);
-                    snprintf(words, sizeof words, "weight %u takes Commit", k);
-                    say(words, answer);
-                }
-            }
+            vote = take(&acceptor[a], "votes", PAXOS_COMMIT_KIND_VOTE, &proposal);
+            take(&leader, "takes the vote", PAXOS_COMMIT_KIND_RECEIPT, &vote);
+            decision = act(&leader, "decides Commit", PAXOS_COMMIT_KIND_COMMIT, 0, 0);
+            for (uint8_t k = 0; k < RMS; k++)
+                take(&weight[k], "takes Commit", PAXOS_COMMIT_KIND_TAKE_DECISION, &decision);
         }
     }
-    show("weight 0's W", w[0], 2);
-    show("weight 1's W", w[1], 2);
-    printf("junk from the wire: %d\n", deliver(&leader, (const uint8_t *)"junk", 4));
+    /* No message, and a message that no acceptor takes. */
+    const struct message nonsense = {"junk", 4},
+                         commit = {{PAXOS_COMMIT_MAP_DECISION, PAXOS_COMMIT_DECISION_COMMIT}, 2};
+    take(&acceptor[0], "votes", PAXOS_COMMIT_KIND_VOTE, &nonsense);
+    take(&acceptor[0], "votes", PAXOS_COMMIT_KIND_VOTE, &commit);
+    for (uint8_t i = 0; i < RMS; i++) {
+        show("W", weight[i].table, weight[i].table_len);
+        free(weight[i].table);
+        free(weight[i].network);
+    }
+    for (uint8_t a = 0; a < ACCEPTORS; a++) {
+        free(acceptor[a].table);
+        free(acceptor[a].network);
+    }
+    free(leader.table);
+    free(leader.network);
+}
 
-    /* The writer makes what the weight sent. */
-    uint64_t written = paxos_commit_write(2, 3, 1, PAXOS_COMMIT_2A, 1, 0, 0, 0, 1);
+/* ---- the writer, and delivery to an N that is none ---- */
+
+static void writer(void) {
+    uint8_t bytes[PAXOS_COMMIT_SLOT];
+    uint64_t written =
+        paxos_commit_write(RMS, ACCEPTORS, LEADERS, PAXOS_COMMIT_MAP_2A, 1, 0, 0, 0, PAXOS_COMMIT_VALUE_PREPARED);
     for (unsigned k = 0; k < PAXOS_COMMIT_SLOT; k++)
         bytes[k] = paxos_commit_byte(written, 2 + k);
     show("2a(1, 0, prepared)", bytes, paxos_commit_byte(written, 1));
-    printf("a 1a at ballot 0: %u\n", paxos_commit_byte(paxos_commit_write(2, 3, 1, PAXOS_COMMIT_1A, 0, 0, 0, 0, 0), 0));
-    printf("no message's map: %u\n", paxos_commit_byte(paxos_commit_write(2, 3, 1, 0x1E, 0, 0, 0, 0, 0), 0));
+    say("delivered to an N of 17 bytes", paxos_commit_deliver(RMS, ACCEPTORS, LEADERS, network, 17, bytes, 4));
+    written = paxos_commit_write(RMS, ACCEPTORS, LEADERS, PAXOS_COMMIT_MAP_1A, 0, 0, 0, 0, 0);
+    printf("a 1a at ballot 0: refused, %u\n", paxos_commit_byte(written, 0));
+    written = paxos_commit_write(RMS, ACCEPTORS, LEADERS, 0x1E, 0, 0, 0, 0, 0);
+    printf("no message's map: refused, %u\n", paxos_commit_byte(written, 0));
 }
 
 int main(void) {
     rehearsal();
     junk();
-    hosts();
+    hosts(64);
+    hosts(1);
+    hosts(0);
+    writer();
     return 0;
 }

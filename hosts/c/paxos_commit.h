@@ -3,7 +3,8 @@
  *
  * The calls are written in Rattle and proved to answer and store exactly what document 01 says. Each group below is a
  * static library of its own; a host links the one that it needs, and none has another role's code. They link into
- * x86-64 programs, position independent or not, need `memset` and nothing else, and use less than 8 KiB of stack.
+ * x86-64 programs, position independent or not, and use less than 8 KiB of stack. libhost_message.a wants no other
+ * symbol, the other four want `memset`.
  *
  *     libhost_message.a     paxos_commit_read, paxos_commit_write
  *     libhost_rm.a          paxos_commit_rm_step
@@ -21,12 +22,16 @@
  *
  * Calls keep nothing between them: no state, no pointer, no lock. Several threads may call at once, each on tables that
  * no other call uses at that time.
+ *
+ * Every named number says by its prefix what it is: REFUSAL_, STATE_, VALUE_, DECISION_, MAP_, KIND_ or ANSWER_. The
+ * Rust crate has the same names for the refusals. docs/HOSTS.md shows a whole host and what to do about each refusal.
  */
 #ifndef PAXOS_COMMIT_H
 #define PAXOS_COMMIT_H
 
 #include <stddef.h>
 #include <stdint.h>
+#include <string.h>
 
 #ifdef __cplusplus
 extern "C" {
@@ -54,82 +59,89 @@ extern "C" {
 /* Why a call was refused: of the reasons that apply, the one with the lowest number. 0 is no refusal. */
 enum paxos_commit_refusal {
     /* every call: rms, acceptors or leaders out of range */
-    PAXOS_COMMIT_BAD_PLAN = 1,
+    PAXOS_COMMIT_REFUSAL_BAD_PLAN = 1,
     /* a table's length: not the plan's, not whole slots, or over 1,024 slots */
-    PAXOS_COMMIT_BAD_LENGTHS = 2,
+    PAXOS_COMMIT_REFUSAL_BAD_LENGTHS = 2,
     /* a byte of W above 3 */
-    PAXOS_COMMIT_BAD_STATES = 3,
+    PAXOS_COMMIT_REFUSAL_BAD_STATES = 3,
     /* in Q a val above 2, or val 0 with a bal that is not 0 */
-    PAXOS_COMMIT_BAD_VOTES = 4,
+    PAXOS_COMMIT_REFUSAL_BAD_VOTES = 4,
     /* in N a slot that is neither unused nor a readable message followed by zeros, or a used slot after an unused */
-    PAXOS_COMMIT_BAD_NETWORK = 5,
+    PAXOS_COMMIT_REFUSAL_BAD_NETWORK = 5,
     /* the same in an inbox */
-    PAXOS_COMMIT_BAD_INBOXES = 6,
+    PAXOS_COMMIT_REFUSAL_BAD_INBOX = 6,
     /* not four bytes, a kind above 8 or of another role, who or instance out of range, or a byte that should be 0 */
-    PAXOS_COMMIT_BAD_EVENT = 7,
+    PAXOS_COMMIT_REFUSAL_BAD_EVENT = 7,
     /* the slot is unused or beyond N */
-    PAXOS_COMMIT_NO_MESSAGE = 8,
+    PAXOS_COMMIT_REFUSAL_NO_MESSAGE = 8,
     /* the slot's message is not one that this role takes */
-    PAXOS_COMMIT_WRONG_ROLE = 9,
+    PAXOS_COMMIT_REFUSAL_WRONG_ROLE = 9,
     /* kinds 5 and 6: the leader does not own the ballot (it does when ballot > 0 and ballot mod leaders = who) */
-    PAXOS_COMMIT_NOT_OWNED = 10,
+    PAXOS_COMMIT_REFUSAL_NOT_OWNED = 10,
     /* kind 2: Commit while working or aborted, Abort while committed. Proved never to come on a record opened fresh */
-    PAXOS_COMMIT_CONTRADICTION = 11,
+    PAXOS_COMMIT_REFUSAL_CONTRADICTION = 11,
     /* the action is not enabled */
-    PAXOS_COMMIT_NOT_ENABLED = 12,
+    PAXOS_COMMIT_REFUSAL_NOT_ENABLED = 12,
     /* the message to send is not in N, and N has no unused slot */
-    PAXOS_COMMIT_NETWORK_FULL = 13,
+    PAXOS_COMMIT_REFUSAL_NETWORK_FULL = 13,
     /* likewise for the inbox */
-    PAXOS_COMMIT_INBOX_FULL = 14,
+    PAXOS_COMMIT_REFUSAL_INBOX_FULL = 14,
     /* reader: no bytes, or an unknown map; writer: a map that is none of the six */
-    PAXOS_COMMIT_UNKNOWN_MAP = 15,
+    PAXOS_COMMIT_REFUSAL_UNKNOWN_MAP = 15,
     /* reader: the length is not the map's */
-    PAXOS_COMMIT_WRONG_LENGTH = 16,
+    PAXOS_COMMIT_REFUSAL_WRONG_LENGTH = 16,
     /* reader, writer: ins, acc or val out of range, or a 1a with bal 0 */
-    PAXOS_COMMIT_OUT_OF_RANGE = 17
+    PAXOS_COMMIT_REFUSAL_OUT_OF_RANGE = 17
 };
 
 /* A weight's state, a byte of W. */
 enum paxos_commit_state {
-    PAXOS_COMMIT_WORKING = 0,
-    PAXOS_COMMIT_PREPARED = 1,
-    PAXOS_COMMIT_COMMITTED = 2,
-    PAXOS_COMMIT_ABORTED = 3
+    PAXOS_COMMIT_STATE_WORKING = 0,
+    PAXOS_COMMIT_STATE_PREPARED = 1,
+    PAXOS_COMMIT_STATE_COMMITTED = 2,
+    PAXOS_COMMIT_STATE_ABORTED = 3
 };
+
+/* A value, `val` of a 1b, 2a or 2b; in Q 0 is no vote. 2 is aborted here, and committed as a state. */
+enum paxos_commit_value { PAXOS_COMMIT_VALUE_PREPARED = 1, PAXOS_COMMIT_VALUE_ABORTED = 2 };
+
+/* What a leader decided, `val` of a decision. */
+enum paxos_commit_decision { PAXOS_COMMIT_DECISION_COMMIT = 1, PAXOS_COMMIT_DECISION_ABORT = 2 };
 
 /* A message's first byte, its bit map; then one byte for each field whose bit stands: bit 0 ins, 1 acc, 2 mbal, 3 bal,
  * 4 val. */
 enum paxos_commit_map {
-    PAXOS_COMMIT_1A = 0x09,      /* ins, bal from 1: 3 bytes */
-    PAXOS_COMMIT_1B = 0x07,      /* ins, acc, mbal: no vote; 4 bytes */
-    PAXOS_COMMIT_1B_VOTE = 0x1F, /* ins, acc, mbal, bal, val: 6 bytes */
-    PAXOS_COMMIT_2A = 0x19,      /* ins, bal, val: 4 bytes */
-    PAXOS_COMMIT_2B = 0x1B,      /* ins, acc, bal, val: 5 bytes */
-    PAXOS_COMMIT_DECISION = 0x10 /* val 1 Commit, 2 Abort: 2 bytes */
+    PAXOS_COMMIT_MAP_1A = 0x09,      /* ins, bal from 1: 3 bytes */
+    PAXOS_COMMIT_MAP_1B = 0x07,      /* ins, acc, mbal: no vote; 4 bytes */
+    PAXOS_COMMIT_MAP_1B_VOTE = 0x1F, /* ins, acc, mbal, bal, val: 6 bytes */
+    PAXOS_COMMIT_MAP_2A = 0x19,      /* ins, bal, val: 4 bytes */
+    PAXOS_COMMIT_MAP_2B = 0x1B,      /* ins, acc, bal, val: 5 bytes */
+    PAXOS_COMMIT_MAP_DECISION = 0x10 /* val, a decision's: 2 bytes */
 };
 
 /* An event's first byte. An event is four bytes: kind, who, high, low. For kinds 2, 3 and 4, 256 * high + low is a slot
  * of N; for 5 and 6 high is the instance and low the ballot; otherwise both are 0. */
 enum paxos_commit_kind {
-    PAXOS_COMMIT_PREPARE = 0,         /* weight: sends 2a(who, 0, 1) */
-    PAXOS_COMMIT_CHOOSE_TO_ABORT = 1, /* weight: sends 2a(who, 0, 2) */
-    PAXOS_COMMIT_TAKE_DECISION = 2,   /* weight: takes the decision in the slot; quiet */
-    PAXOS_COMMIT_VOTE = 3,            /* acceptor: answers the 1a in the slot by a 1b, or the 2a there by a 2b */
-    PAXOS_COMMIT_RECEIPT = 4,         /* leader: takes the 1b or 2b in the slot into its inbox; quiet */
-    PAXOS_COMMIT_PHASE_1A = 5,        /* leader: sends 1a(high, low) */
-    PAXOS_COMMIT_PHASE_2A = 6,        /* leader: sends 2a(high, low, v) and keeps it in its inbox, whose 1b say v */
-    PAXOS_COMMIT_COMMIT = 7,          /* leader: sends Commit */
-    PAXOS_COMMIT_ABORT = 8            /* leader: sends Abort */
+    PAXOS_COMMIT_KIND_PREPARE = 0,         /* weight: sends 2a(who, 0, prepared) */
+    PAXOS_COMMIT_KIND_CHOOSE_TO_ABORT = 1, /* weight: sends 2a(who, 0, aborted) */
+    PAXOS_COMMIT_KIND_TAKE_DECISION = 2,   /* weight: takes the decision in the slot; quiet */
+    PAXOS_COMMIT_KIND_VOTE = 3,            /* acceptor: answers the 1a in the slot by a 1b, or the 2a there by a 2b */
+    PAXOS_COMMIT_KIND_RECEIPT = 4,         /* leader: takes the 1b or 2b in the slot into its inbox; quiet */
+    PAXOS_COMMIT_KIND_PHASE_1A = 5,        /* leader: sends 1a(high, low) */
+    PAXOS_COMMIT_KIND_PHASE_2A = 6,        /* leader: sends 2a(high, low, v), kept in its inbox, whose 1b say v */
+    PAXOS_COMMIT_KIND_COMMIT = 7,          /* leader: sends Commit */
+    PAXOS_COMMIT_KIND_ABORT = 8            /* leader: sends Abort */
 };
 
-/* What a step answers: below 1,024 the slot of N where the sent message stands; 65535 for an accepted step that sends
- * nothing (kinds 2 and 4); or 65536 and the refusal. */
-#define PAXOS_COMMIT_QUIET ((uint32_t)65535)
-#define PAXOS_COMMIT_REFUSED ((uint32_t)65536)
+/* What a step answers: below 1,024 the slot of N where the sent message stands; ANSWER_QUIET for an accepted step that
+ * sends nothing (kinds 2 and 4); or ANSWER_REFUSED and the refusal's number added, so that every refused answer is
+ * above ANSWER_REFUSED and none is a slot. */
+#define PAXOS_COMMIT_ANSWER_QUIET ((uint32_t)65535)
+#define PAXOS_COMMIT_ANSWER_REFUSED ((uint32_t)65536)
 
 /* The refusal that a step's answer is; 0 for an accepted step. */
 static inline uint8_t paxos_commit_refusal_of(uint32_t answer) {
-    return answer < PAXOS_COMMIT_REFUSED ? 0 : (uint8_t)(answer - PAXOS_COMMIT_REFUSED);
+    return answer < PAXOS_COMMIT_ANSWER_REFUSED ? 0 : (uint8_t)(answer - PAXOS_COMMIT_ANSWER_REFUSED);
 }
 
 /* Byte k of what the reader or the writer answers, byte 0 the lowest. */
@@ -142,9 +154,9 @@ static inline uint8_t paxos_commit_byte(uint64_t answer, unsigned k) { return (u
  * the others are 0. */
 uint64_t paxos_commit_read(uint8_t rms, uint8_t acceptors, uint8_t leaders, const uint8_t *bytes, size_t len);
 
-/* The writer, of the message with this map; fields that it does not have are not looked at. Byte 0 of the answer is 0,
- * byte 1 the message's length, and bytes 2 to 7 are the message followed by zeros, as it stands in a slot. Refused:
- * byte 0 is 1, 15 (a map that is none of the six) or 17 and the others are 0. */
+/* The writer, of the message with this map; fields that it does not have are not looked at. `val` is a VALUE_, in a
+ * decision a DECISION_. Byte 0 of the answer is 0, byte 1 the message's length, and bytes 2 to 7 are the message and
+ * zeros, as in a slot. Refused: byte 0 is 1, 15 (a map that is none of the six) or 17, the others are 0. */
 uint64_t paxos_commit_write(uint8_t rms, uint8_t acceptors, uint8_t leaders, uint8_t map, uint8_t ins, uint8_t acc,
                             uint8_t mbal, uint8_t bal, uint8_t val);
 
@@ -181,6 +193,43 @@ uint8_t paxos_commit_open(uint8_t rms, uint8_t acceptors, uint8_t leaders, uint8
 uint32_t paxos_commit_step(uint8_t rms, uint8_t acceptors, uint8_t leaders, uint8_t *states, size_t states_len,
                            uint8_t *votes, size_t votes_len, uint8_t *network, size_t network_len, uint8_t *inboxes,
                            size_t inboxes_len, const uint8_t *event, size_t event_len);
+
+/* ---- what a host does around the calls; plain C, tested and not proved ---- */
+
+/* A message that another host sent goes into this host's N, unless it stands there, and its slot is answered, which
+ * events of kinds 2, 3 and 4 name. Refused, by ANSWER_REFUSED and the number: what the reader refuses, and 2 and 13 for
+ * N; then no byte changes. On a sound N it leaves a sound one. It calls the reader: link libhost_message.a. */
+static inline uint32_t paxos_commit_deliver(uint8_t rms, uint8_t acceptors, uint8_t leaders, uint8_t *network,
+                                            size_t network_len, const uint8_t *bytes, size_t len) {
+    const uint8_t unused[PAXOS_COMMIT_SLOT] = {0};
+    uint8_t message[PAXOS_COMMIT_SLOT] = {0};
+    uint8_t refusal = paxos_commit_byte(paxos_commit_read(rms, acceptors, leaders, bytes, len), 0);
+    if (refusal != 0)
+        return PAXOS_COMMIT_ANSWER_REFUSED + refusal;
+    if (network_len % PAXOS_COMMIT_SLOT != 0 || network_len > PAXOS_COMMIT_NETWORK_MAX)
+        return PAXOS_COMMIT_ANSWER_REFUSED + PAXOS_COMMIT_REFUSAL_BAD_LENGTHS;
+    memcpy(message, bytes, len); /* at most six: the reader has read them */
+    for (size_t at = 0; at < network_len; at += PAXOS_COMMIT_SLOT) {
+        if (memcmp(network + at, unused, PAXOS_COMMIT_SLOT) == 0)
+            memcpy(network + at, message, PAXOS_COMMIT_SLOT);
+        if (memcmp(network + at, message, PAXOS_COMMIT_SLOT) == 0)
+            return (uint32_t)(at / PAXOS_COMMIT_SLOT);
+    }
+    return PAXOS_COMMIT_ANSWER_REFUSED + PAXOS_COMMIT_REFUSAL_NETWORK_FULL;
+}
+
+/* What a step with this answer sent, as it goes over the wire: the message's bytes, and its length, which is 1 and the
+ * number of bits in the map. 0 where nothing was sent: the step was quiet or refused. */
+static inline size_t paxos_commit_sent(const uint8_t *network, size_t network_len, uint32_t answer,
+                                       uint8_t message[PAXOS_COMMIT_SLOT]) {
+    size_t len = 1;
+    if (answer >= network_len / PAXOS_COMMIT_SLOT || answer >= PAXOS_COMMIT_MAX_SLOTS)
+        return 0;
+    memcpy(message, network + PAXOS_COMMIT_SLOT * (size_t)answer, PAXOS_COMMIT_SLOT);
+    for (unsigned bit = 0; bit < 5; bit++)
+        len += message[0] >> bit & 1;
+    return len;
+}
 
 #ifdef __cplusplus
 }

@@ -160,7 +160,7 @@ fn kinds() -> Vec<Kind> {
     vec![
         Kind { sends: Some(message_2a(3, 0, 1)), ..kind("0 prepare", Event::Prepare { rm: 3 }) },
         Kind { sends: Some(message_2a(3, 0, 2)), ..kind("1 choose to abort", Event::ChooseToAbort { rm: 3 }) },
-        Kind { takes: Some(decision(2)), ..kind("2 decision", Event::Decision { rm: 3, slot: 0 }) },
+        Kind { takes: Some(decision(2)), ..kind("2 decision", Event::TakeDecision { rm: 3, slot: 0 }) },
         Kind {
             takes: Some(message_1a(3, 9)),
             sends: Some(message_1b(3, 2, 9)),
@@ -188,7 +188,7 @@ fn kinds() -> Vec<Kind> {
         Kind { inbox: aborts, sends: Some(decision(2)), ..kind("8 abort", Event::Abort { leader: 3 }) },
         kind("0, no room when full (13)", Event::Prepare { rm: 3 }),
         Kind { takes: Some(received), ..kind("4, no room when full (14)", Event::Receipt { leader: 3, slot: 0 }) },
-        kind("2, slot beyond N (8)", Event::Decision { rm: 3, slot: 65535 }),
+        kind("2, slot beyond N (8)", Event::TakeDecision { rm: 3, slot: 65535 }),
     ]
 }
 

@@ -15,7 +15,7 @@ pub enum Event {
         rm: u8,
     },
     /// Kind 2: weight `rm` takes the decision in a slot of N. Quiet.
-    Decision {
+    TakeDecision {
         /// The weight.
         rm: u8,
         /// The slot.
@@ -82,7 +82,7 @@ impl Event {
         match self {
             Event::Prepare { rm } => [0, rm, 0, 0],
             Event::ChooseToAbort { rm } => [1, rm, 0, 0],
-            Event::Decision { rm, slot } => of_slot(2, rm, slot),
+            Event::TakeDecision { rm, slot } => of_slot(2, rm, slot),
             Event::Vote { acceptor, slot } => of_slot(3, acceptor, slot),
             Event::Receipt { leader, slot } => of_slot(4, leader, slot),
             Event::Phase1a { leader, ins, bal } => [5, leader, ins, bal],

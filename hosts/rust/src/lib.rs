@@ -27,12 +27,12 @@
 //! assert_eq!(record.step(Event::Vote { acceptor: 0, slot: 0 }), Ok(Answer::Slot(1)));
 //! assert_eq!(record.step(Event::Receipt { leader: 0, slot: 1 }), Ok(Answer::Quiet));
 //! assert_eq!(record.step(Event::Commit { leader: 0 }), Ok(Answer::Slot(2)));
-//! assert_eq!(record.step(Event::Decision { rm: 0, slot: 2 }), Ok(Answer::Quiet));
+//! assert_eq!(record.step(Event::TakeDecision { rm: 0, slot: 2 }), Ok(Answer::Quiet));
 //! assert_eq!(record.step(Event::ChooseToAbort { rm: 0 }), Err(Refusal::NotEnabled));
 //! assert_eq!(record.ending(), Ending::Committed);
 //!
 //! // Whatever the network brings:
-//! assert_eq!(record.step_bytes(b"anything"), Err(Refusal::Event));
+//! assert_eq!(record.step_bytes(b"anything"), Err(Refusal::BadEvent));
 //! # Ok::<(), Refusal>(())
 //! ```
 //!
@@ -56,7 +56,7 @@ pub use answer::Answer;
 pub use event::Event;
 #[cfg(feature = "message")]
 pub use message::deliver;
-pub use message::{Fields, Message, Value, Vote, Written};
+pub use message::{Decision, Fields, Message, Value, Vote, Written};
 pub use plan::{MAX_SLOTS, Plan, SLOT, State, slots_len};
 #[cfg(feature = "record")]
 pub use record::{Ending, Record, open, step};

@@ -8,14 +8,27 @@ use crate::plan::{MAX_SLOTS, SLOT};
 use crate::{Plan, Refusal, ffi};
 use core::ops::Deref;
 
-/// A value of an instance. As a decision, `Prepared` is Commit and `Aborted` is Abort.
+/// A value of an instance: what a 2a proposes, and what a 1b or 2b says was voted for. No weight's [`State`], in which 2
+/// is committed; and no [`Decision`].
+///
+/// [`State`]: crate::State
 #[derive(Clone, Copy, Debug, PartialEq, Eq, Hash)]
 #[repr(u8)]
 pub enum Value {
-    /// 1: prepared; in a decision Commit.
+    /// 1: prepared.
     Prepared = 1,
-    /// 2: aborted; in a decision Abort.
+    /// 2: aborted.
     Aborted = 2,
+}
+
+/// What a leader decided: the `val` of a decision's message.
+#[derive(Clone, Copy, Debug, PartialEq, Eq, Hash)]
+#[repr(u8)]
+pub enum Decision {
+    /// 1: all instances are decided as prepared.
+    Commit = 1,
+    /// 2: some instance is decided as aborted.
+    Abort = 2,
 }
 
 /// The last vote of an acceptor, as a 1b reports it.
@@ -39,8 +52,8 @@ pub enum Message {
     Phase2a { ins: u8, bal: u8, val: Value },
     /// 2b: an acceptor votes.
     Phase2b { ins: u8, acc: u8, bal: u8, val: Value },
-    /// Commit (`Prepared`) or Abort (`Aborted`).
-    Decision { val: Value },
+    /// Commit or Abort.
+    Decision { val: Decision },
 }
 
 /// A message as its bit map and raw fields. Fields that the map does not name are not looked at by the writer, and 0
@@ -60,7 +73,7 @@ pub struct Fields {
     pub mbal: u8,
     /// The ballot, bit 3.
     pub bal: u8,
-    /// The value, bit 4.
+    /// The value, or in a decision Commit or Abort, bit 4: the number of a [`Value`] or a [`Decision`].
     pub val: u8,
 }
 
@@ -109,8 +122,8 @@ impl AsRef<[u8]> for Written {
 
 #[cfg(feature = "message")]
 impl Fields {
-    /// The proved reader, with raw fields. It refuses [`Refusal::Plan`], [`Map`](Refusal::Map),
-    /// [`Length`](Refusal::Length) and [`Field`](Refusal::Field).
+    /// The proved reader, with raw fields. It refuses [`Refusal::BadPlan`], [`UnknownMap`](Refusal::UnknownMap),
+    /// [`WrongLength`](Refusal::WrongLength) and [`OutOfRange`](Refusal::OutOfRange).
     #[inline]
     pub fn read(plan: Plan, bytes: &[u8]) -> Result<Fields, Refusal> {
         let [number, map, ins, acc, mbal, bal, val, _] = ffi::read(plan, bytes).to_le_bytes();
@@ -120,8 +133,8 @@ impl Fields {
         }
     }
 
-    /// The proved writer, with raw fields. It refuses [`Refusal::Plan`], [`Map`](Refusal::Map) for a map that is no
-    /// message's, and [`Field`](Refusal::Field).
+    /// The proved writer, with raw fields. It refuses [`Refusal::BadPlan`], [`UnknownMap`](Refusal::UnknownMap) for a
+    /// map that is no message's, and [`OutOfRange`](Refusal::OutOfRange).
     #[inline]
     pub fn write(self, plan: Plan) -> Result<Written, Refusal> {
         let Fields { map, ins, acc, mbal, bal, val } = self;
@@ -142,8 +155,8 @@ impl Message {
     /// let plan = Plan { rms: 1, acceptors: 1, leaders: 1 };
     /// assert_eq!(Message::read(plan, &[0x19, 0, 0, 1]), Ok(Message::Phase2a { ins: 0, bal: 0, val: Value::Prepared }));
     /// assert_eq!(Message::read(plan, &[0x07, 0, 0, 1]), Ok(Message::Phase1b { ins: 0, acc: 0, mbal: 1, vote: None }));
-    /// assert_eq!(Message::read(plan, &[0x19, 0, 0]), Err(Refusal::Length));
-    /// assert_eq!(Message::read(plan, b"junk"), Err(Refusal::Map));
+    /// assert_eq!(Message::read(plan, &[0x19, 0, 0]), Err(Refusal::WrongLength));
+    /// assert_eq!(Message::read(plan, b"junk"), Err(Refusal::UnknownMap));
     /// ```
     pub fn read(plan: Plan, bytes: &[u8]) -> Result<Message, Refusal> {
         let Fields { map, ins, acc, mbal, bal, val } = Fields::read(plan, bytes)?;
@@ -158,7 +171,13 @@ impl Message {
             0x1F => Message::Phase1b { ins, acc, mbal, vote: Some(Vote { bal, val: value() }) },
             0x19 => Message::Phase2a { ins, bal, val: value() },
             0x1B => Message::Phase2b { ins, acc, bal, val: value() },
-            0x10 => Message::Decision { val: value() },
+            0x10 => Message::Decision {
+                val: match val {
+                    1 => Decision::Commit,
+                    2 => Decision::Abort,
+                    _ => outside(),
+                },
+            },
             _ => outside(),
         })
     }
@@ -174,34 +193,34 @@ impl Message {
     /// assert_eq!(*written, [0x1B, 1, 2, 7, 2]);
     /// assert_eq!(written.slot(), [0x1B, 1, 2, 7, 2, 0]);
     /// assert_eq!(Message::read(plan, &written), Ok(vote));
-    /// assert_eq!(Message::Phase1a { ins: 0, bal: 0 }.write(plan), Err(Refusal::Field));
+    /// assert_eq!(Message::Phase1a { ins: 0, bal: 0 }.write(plan), Err(Refusal::OutOfRange));
     /// # Ok::<(), Refusal>(())
     /// ```
     pub fn write(self, plan: Plan) -> Result<Written, Refusal> {
         Fields::from(self).write(plan)
     }
 
-    /// The message in a slot of a network or an inbox; [`Refusal::Slot`] where the slot is unused or beyond the table.
-    /// It judges this slot alone, as the reader does.
+    /// The message in a slot of a network or an inbox; [`Refusal::NoMessage`] where the slot is unused or beyond the
+    /// table. It judges this slot alone, as the reader does.
     pub fn in_slot(plan: Plan, table: &[u8], slot: u16) -> Result<Message, Refusal> {
         let Some(bytes) = table.chunks_exact(SLOT).nth(slot.into()) else {
-            return Err(Refusal::Slot);
+            return Err(Refusal::NoMessage);
         };
         // The length by the map's bits: one byte, and one for each field.
         let len = match bytes[0] {
-            0 if bytes.iter().all(|&byte| byte == 0) => return Err(Refusal::Slot),
+            0 if bytes.iter().all(|&byte| byte == 0) => return Err(Refusal::NoMessage),
             map => (1 + map.count_ones() as usize).min(SLOT),
         };
         let message = Message::read(plan, &bytes[..len])?;
         if bytes[len..].iter().any(|&byte| byte != 0) {
-            return Err(Refusal::Length);
+            return Err(Refusal::WrongLength);
         }
         Ok(message)
     }
 }
 
 /// Puts a message that another host sent into this host's network table, unless it stands there, and answers its slot,
-/// which events of kinds 2, 3 and 4 name. It refuses what the reader refuses, [`Refusal::Lengths`] and
+/// which events of kinds 2, 3 and 4 name. It refuses what the reader refuses, [`Refusal::BadLengths`] and
 /// [`Refusal::NetworkFull`], and then changes no byte. On a sound table it leaves a sound one.
 ///
 /// The rehearsal needs no such thing, since all roles share one table there. It is plain Rust around the proved reader,
@@ -215,13 +234,13 @@ impl Message {
 /// assert_eq!(deliver(plan, &mut network, &[0x09, 0, 1]), Ok(0));
 /// assert_eq!(deliver(plan, &mut network, &[0x09, 0, 1]), Ok(0));
 /// assert_eq!(deliver(plan, &mut network, &[0x09, 0, 2]), Err(Refusal::NetworkFull));
-/// assert_eq!(deliver(plan, &mut network, b"?"), Err(Refusal::Map));
+/// assert_eq!(deliver(plan, &mut network, b"?"), Err(Refusal::UnknownMap));
 /// ```
 #[cfg(feature = "message")]
 pub fn deliver(plan: Plan, network: &mut [u8], bytes: &[u8]) -> Result<u16, Refusal> {
     Fields::read(plan, bytes)?;
     if !network.len().is_multiple_of(SLOT) || network.len() / SLOT > MAX_SLOTS {
-        return Err(Refusal::Lengths);
+        return Err(Refusal::BadLengths);
     }
     let mut message = [0; SLOT];
     message[..bytes.len()].copy_from_slice(bytes);

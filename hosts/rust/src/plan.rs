@@ -15,7 +15,7 @@ pub const fn slots_len(slots: usize) -> usize {
 
 /// The counts of an order, each numbered from 0. All calls on a record are given the plan that it was opened with: the
 /// tables do not keep it. A plan out of range is no error of the caller: every call refuses it with
-/// [`Refusal::Plan`](crate::Refusal::Plan).
+/// [`Refusal::BadPlan`](crate::Refusal::BadPlan).
 #[derive(Clone, Copy, Debug, PartialEq, Eq, Hash)]
 pub struct Plan {
     /// Resource managers (document 01: weights), 1 to 16.

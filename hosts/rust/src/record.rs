@@ -4,7 +4,8 @@ use crate::answer::refused;
 use crate::plan::slots_len;
 use crate::{Answer, Event, Plan, Refusal, ffi};
 
-/// Opens a record on lent tables: every byte becomes 0. It refuses `Plan` and `Lengths`, and looks at nothing else.
+/// Opens a record on lent tables: every byte becomes 0. It refuses `BadPlan` and `BadLengths`, and looks at
+/// nothing else.
 #[inline]
 pub fn open(
     plan: Plan,
@@ -55,7 +56,7 @@ pub enum Ending {
 /// let (network, inboxes) = rest.split_at_mut(slots_len(32));
 ///
 /// let mut record = Record::of(plan, states, votes, network, inboxes);
-/// assert_eq!(record.step(Event::Prepare { rm: 2 }), Err(Refusal::States)); // not opened: 0xAA is no state
+/// assert_eq!(record.step(Event::Prepare { rm: 2 }), Err(Refusal::BadStates)); // not opened: 0xAA is no state
 /// record.open()?;
 /// assert_eq!(record.step(Event::Prepare { rm: 2 }), Ok(Answer::Slot(0)));
 /// assert_eq!(record.states(), [0, 0, 1]);
@@ -75,8 +76,8 @@ impl Record {
     ///
     /// ```
     /// # use paxos_commit::{Plan, Record, Refusal};
-    /// assert_eq!(Record::fresh(Plan { rms: 17, acceptors: 1, leaders: 1 }, 8, 8), Err(Refusal::Plan));
-    /// assert_eq!(Record::fresh(Plan { rms: 16, acceptors: 1, leaders: 1 }, 1025, 8), Err(Refusal::Lengths));
+    /// assert_eq!(Record::fresh(Plan { rms: 17, acceptors: 1, leaders: 1 }, 8, 8), Err(Refusal::BadPlan));
+    /// assert_eq!(Record::fresh(Plan { rms: 16, acceptors: 1, leaders: 1 }, 1025, 8), Err(Refusal::BadLengths));
     /// ```
     pub fn fresh(plan: Plan, network_slots: usize, inbox_slots: usize) -> Result<Record, Refusal> {
         // No more than one slot over the limit, so that a count from anywhere takes no memory before it is refused.
@@ -100,7 +101,7 @@ impl<T: AsRef<[u8]> + AsMut<[u8]>> Record<T> {
         Record { plan, states, votes, network, inboxes }
     }
 
-    /// Opens the record: every byte becomes 0, or it refuses `Plan` or `Lengths`.
+    /// Opens the record: every byte becomes 0, or it refuses `BadPlan` or `BadLengths`.
     pub fn open(&mut self) -> Result<(), Refusal> {
         open(self.plan, self.states.as_mut(), self.votes.as_mut(), self.network.as_mut(), self.inboxes.as_mut())
     }

@@ -3,32 +3,32 @@
 use core::fmt;
 
 /// Why a call was refused: of the reasons that apply, the one with the lowest number. A refused call has changed no
-/// byte.
+/// byte. The C header has the same names; docs/HOSTS.md says what a host does about each.
 #[derive(Clone, Copy, Debug, PartialEq, Eq, PartialOrd, Ord, Hash)]
 #[repr(u8)]
 pub enum Refusal {
     /// 1: resource managers, acceptors or leaders out of range.
-    Plan = 1,
+    BadPlan = 1,
     /// 2: a table whose length does not fit the plan, is not whole slots, or is over 1,024 slots.
-    Lengths = 2,
+    BadLengths = 2,
     /// 3: a byte of W above 3.
-    States = 3,
+    BadStates = 3,
     /// 4: in Q a value above 2, or a ballot without a vote.
-    Votes = 4,
+    BadVotes = 4,
     /// 5: in N a slot that is neither unused nor a readable message with zeros after it, or a used slot after an unused
     /// one.
-    Network = 5,
+    BadNetwork = 5,
     /// 6: the same in an inbox.
-    Inboxes = 6,
+    BadInbox = 6,
     /// 7: not four bytes, a kind above 8 or of another role, a process or instance outside the plan, or a byte that
     /// should be 0.
-    Event = 7,
+    BadEvent = 7,
     /// 8: the slot that the event names is unused or beyond N.
-    Slot = 8,
+    NoMessage = 8,
     /// 9: the message in the slot is not one that this role takes.
-    Role = 9,
+    WrongRole = 9,
     /// 10: the leader does not own the ballot.
-    Ballot = 10,
+    NotOwned = 10,
     /// 11: the decision contradicts the weight's state. Proved never to happen on a record that was opened fresh.
     Contradiction = 11,
     /// 12: the action is not enabled.
@@ -38,33 +38,33 @@ pub enum Refusal {
     /// 14: likewise for the inbox.
     InboxFull = 14,
     /// 15: no bytes, or a first byte that is no message's map.
-    Map = 15,
+    UnknownMap = 15,
     /// 16: the length is not the one that the map says.
-    Length = 16,
+    WrongLength = 16,
     /// 17: an instance, acceptor or value out of range, or a 1a at ballot 0.
-    Field = 17,
+    OutOfRange = 17,
 }
 
 impl Refusal {
     /// All refusals, by number.
     pub const ALL: [Refusal; 17] = [
-        Refusal::Plan,
-        Refusal::Lengths,
-        Refusal::States,
-        Refusal::Votes,
-        Refusal::Network,
-        Refusal::Inboxes,
-        Refusal::Event,
-        Refusal::Slot,
-        Refusal::Role,
-        Refusal::Ballot,
+        Refusal::BadPlan,
+        Refusal::BadLengths,
+        Refusal::BadStates,
+        Refusal::BadVotes,
+        Refusal::BadNetwork,
+        Refusal::BadInbox,
+        Refusal::BadEvent,
+        Refusal::NoMessage,
+        Refusal::WrongRole,
+        Refusal::NotOwned,
         Refusal::Contradiction,
         Refusal::NotEnabled,
         Refusal::NetworkFull,
         Refusal::InboxFull,
-        Refusal::Map,
-        Refusal::Length,
-        Refusal::Field,
+        Refusal::UnknownMap,
+        Refusal::WrongLength,
+        Refusal::OutOfRange,
     ];
 
     /// The number in document 01, 1 to 17.
@@ -77,23 +77,23 @@ impl Refusal {
     pub const fn from_number(number: u8) -> Option<Refusal> {
         // One arm for each, since the compiler sees then that a refusal is its number.
         Some(match number {
-            1 => Refusal::Plan,
-            2 => Refusal::Lengths,
-            3 => Refusal::States,
-            4 => Refusal::Votes,
-            5 => Refusal::Network,
-            6 => Refusal::Inboxes,
-            7 => Refusal::Event,
-            8 => Refusal::Slot,
-            9 => Refusal::Role,
-            10 => Refusal::Ballot,
+            1 => Refusal::BadPlan,
+            2 => Refusal::BadLengths,
+            3 => Refusal::BadStates,
+            4 => Refusal::BadVotes,
+            5 => Refusal::BadNetwork,
+            6 => Refusal::BadInbox,
+            7 => Refusal::BadEvent,
+            8 => Refusal::NoMessage,
+            9 => Refusal::WrongRole,
+            10 => Refusal::NotOwned,
             11 => Refusal::Contradiction,
             12 => Refusal::NotEnabled,
             13 => Refusal::NetworkFull,
             14 => Refusal::InboxFull,
-            15 => Refusal::Map,
-            16 => Refusal::Length,
-            17 => Refusal::Field,
+            15 => Refusal::UnknownMap,
+            16 => Refusal::WrongLength,
+            17 => Refusal::OutOfRange,
             _ => return None,
         })
     }
@@ -102,23 +102,23 @@ impl Refusal {
 impl fmt::Display for Refusal {
     fn fmt(&self, f: &mut fmt::Formatter) -> fmt::Result {
         let words = match self {
-            Refusal::Plan => "plan out of range",
-            Refusal::Lengths => "lengths of the tables do not fit the plan",
-            Refusal::States => "W holds a byte that is no state",
-            Refusal::Votes => "Q holds a vote that is none",
-            Refusal::Network => "N is damaged",
-            Refusal::Inboxes => "an inbox is damaged",
-            Refusal::Event => "no event",
-            Refusal::Slot => "the slot is unused or beyond N",
-            Refusal::Role => "the message is not for this role",
-            Refusal::Ballot => "ballot not owned",
+            Refusal::BadPlan => "plan out of range",
+            Refusal::BadLengths => "lengths of the tables do not fit the plan",
+            Refusal::BadStates => "W holds a byte that is no state",
+            Refusal::BadVotes => "Q holds a vote that is none",
+            Refusal::BadNetwork => "N is damaged",
+            Refusal::BadInbox => "an inbox is damaged",
+            Refusal::BadEvent => "no event",
+            Refusal::NoMessage => "the slot is unused or beyond N",
+            Refusal::WrongRole => "the message is not for this role",
+            Refusal::NotOwned => "ballot not owned",
             Refusal::Contradiction => "the decision contradicts the state",
             Refusal::NotEnabled => "not enabled",
             Refusal::NetworkFull => "N is full",
             Refusal::InboxFull => "the inbox is full",
-            Refusal::Map => "no message, or an unknown one",
-            Refusal::Length => "the length is not the message's",
-            Refusal::Field => "a field of the message is out of range",
+            Refusal::UnknownMap => "no message, or an unknown one",
+            Refusal::WrongLength => "the length is not the message's",
+            Refusal::OutOfRange => "a field of the message is out of range",
         };
         write!(f, "{words} ({})", self.number())
     }

@@ -7,8 +7,8 @@ use crate::{Answer, Plan, Refusal, ffi};
 /// The step of a resource manager (document 01: a weight): events of kinds 0, 1 and 2. `states` is W, a byte for each
 /// weight of the plan.
 ///
-/// Refusals: `Plan`, `Lengths`, `States`, `Network`, `Event`, `Slot`, `Role`, `Contradiction`, `NotEnabled`,
-/// `NetworkFull`.
+/// Refusals: `BadPlan`, `BadLengths`, `BadStates`, `BadNetwork`, `BadEvent`, `NoMessage`, `WrongRole`, `Contradiction`,
+/// `NotEnabled`, `NetworkFull`.
 ///
 /// ```
 /// use paxos_commit::{rm_step, slots_len, Answer, Event, Plan, Refusal};
@@ -30,7 +30,8 @@ pub fn rm_step(plan: Plan, states: &mut [u8], network: &mut [u8], event: &[u8]) 
 /// The step of an acceptor: events of kind 3. `votes` is Q, three bytes for each instance and acceptor of the plan. It
 /// is never quiet.
 ///
-/// Refusals: `Plan`, `Lengths`, `Votes`, `Network`, `Event`, `Slot`, `Role`, `NotEnabled`, `NetworkFull`.
+/// Refusals: `BadPlan`, `BadLengths`, `BadVotes`, `BadNetwork`, `BadEvent`, `NoMessage`, `WrongRole`, `NotEnabled`,
+/// `NetworkFull`.
 ///
 /// ```
 /// use paxos_commit::{acceptor_step, slots_len, Answer, Event, Plan};
@@ -52,8 +53,8 @@ pub fn acceptor_step(plan: Plan, votes: &mut [u8], network: &mut [u8], event: &[
 /// The step of a leader: events of kinds 4 to 8. `inbox` is this leader's inbox alone; nothing ties it to the leader
 /// that the event names, which is the host's to see to.
 ///
-/// Refusals: `Plan`, `Lengths`, `Network`, `Inboxes`, `Event`, `Slot`, `Role`, `Ballot`, `NotEnabled`, `NetworkFull`,
-/// `InboxFull`.
+/// Refusals: `BadPlan`, `BadLengths`, `BadNetwork`, `BadInbox`, `BadEvent`, `NoMessage`, `WrongRole`, `NotOwned`,
+/// `NotEnabled`, `NetworkFull`, `InboxFull`.
 ///
 /// ```
 /// use paxos_commit::{leader_step, slots_len, Answer, Event, Plan, Refusal};
@@ -65,7 +66,7 @@ pub fn acceptor_step(plan: Plan, votes: &mut [u8], network: &mut [u8], event: &[
 /// assert_eq!(step(Event::Commit { leader: 1 }), Err(Refusal::NotEnabled));
 /// assert_eq!(step(Event::Receipt { leader: 1, slot: 0 }), Ok(Answer::Quiet));
 /// assert_eq!(step(Event::Commit { leader: 1 }), Ok(Answer::Slot(1)));
-/// assert_eq!(step(Event::Phase1a { leader: 1, ins: 0, bal: 2 }), Err(Refusal::Ballot));
+/// assert_eq!(step(Event::Phase1a { leader: 1, ins: 0, bal: 2 }), Err(Refusal::NotOwned));
 /// ```
 #[cfg(feature = "leader")]
 #[inline]

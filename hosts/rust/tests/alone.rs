@@ -10,7 +10,7 @@ const ONE: Plan = Plan { rms: 1, acceptors: 1, leaders: 1 };
 #[cfg(feature = "message")]
 #[test]
 fn message() {
-    let message = Message::Decision { val: Value::Aborted };
+    let message = Message::Decision { val: Decision::Abort };
     assert_eq!(Message::read(ONE, &message.write(ONE).unwrap()), Ok(message));
 }
 

@@ -21,10 +21,10 @@ fn table(messages: &[&[u8]]) -> Vec<u8> {
 fn examples_1_to_6() {
     assert_eq!(Message::read(ONE, &[0x19, 0, 0, 1]), Ok(Message::Phase2a { ins: 0, bal: 0, val: Value::Prepared }));
     assert_eq!(Message::read(ONE, &[0x07, 0, 0, 1]), Ok(Message::Phase1b { ins: 0, acc: 0, mbal: 1, vote: None }));
-    assert_eq!(Message::read(ONE, &[0]), Err(Refusal::Map));
-    assert_eq!(Message::read(ONE, &[0x19, 0, 0]), Err(Refusal::Length));
-    assert_eq!(Message::read(ONE, &[0x19, 0, 0, 3]), Err(Refusal::Field));
-    assert_eq!(Message::read(ONE, &[0x09, 0, 0]), Err(Refusal::Field));
+    assert_eq!(Message::read(ONE, &[0]), Err(Refusal::UnknownMap));
+    assert_eq!(Message::read(ONE, &[0x19, 0, 0]), Err(Refusal::WrongLength));
+    assert_eq!(Message::read(ONE, &[0x19, 0, 0, 3]), Err(Refusal::OutOfRange));
+    assert_eq!(Message::read(ONE, &[0x09, 0, 0]), Err(Refusal::OutOfRange));
 }
 
 #[test]
@@ -74,9 +74,9 @@ fn rehearsal() {
     assert_eq!(lines, [0, 0, 0, 0, 0, 12]);
     assert_eq!(record.ending(), Ending::Committed);
     assert_eq!(record.slot(2), Some([0x10, 1, 0, 0, 0, 0]));
-    assert_eq!(Message::in_slot(ONE, record.network(), 2), Ok(Message::Decision { val: Value::Prepared }));
-    assert_eq!(Message::in_slot(ONE, record.network(), 3), Err(Refusal::Slot));
-    assert_eq!(Message::in_slot(ONE, record.network(), 1024), Err(Refusal::Slot));
+    assert_eq!(Message::in_slot(ONE, record.network(), 2), Ok(Message::Decision { val: Decision::Commit }));
+    assert_eq!(Message::in_slot(ONE, record.network(), 3), Err(Refusal::NoMessage));
+    assert_eq!(Message::in_slot(ONE, record.network(), 1024), Err(Refusal::NoMessage));
     assert_eq!(record.slot(1024), None);
 }
 
@@ -109,7 +109,7 @@ fn a_host_for_each_role() {
     let decision = sent(&leader, answer);
     for (rm, (states, network)) in (0..).zip(&mut weights) {
         let slot = deliver(plan, network, &decision).unwrap();
-        assert_eq!(rm_step(plan, states, network, &Event::Decision { rm, slot }.bytes()), Ok(Answer::Quiet));
+        assert_eq!(rm_step(plan, states, network, &Event::TakeDecision { rm, slot }.bytes()), Ok(Answer::Quiet));
         assert_eq!(State::from_byte(states[usize::from(rm)]), Some(State::Committed));
     }
 }
@@ -120,7 +120,7 @@ fn borrowed_and_owned_records() {
     let mut owned = Record::fresh(plan, 5, 4).unwrap();
     let (mut w, mut q, mut n, mut i) = (vec![9; 3], vec![9; 18], vec![9; 30], vec![9; 48]);
     let mut lent = Record::of(plan, &mut w[..], &mut q[..], &mut n[..], &mut i[..]);
-    assert_eq!(lent.step(Event::Prepare { rm: 0 }), Err(Refusal::States));
+    assert_eq!(lent.step(Event::Prepare { rm: 0 }), Err(Refusal::BadStates));
     lent.open().unwrap();
     for event in [Event::Prepare { rm: 1 }, Event::Vote { acceptor: 1, slot: 0 }, Event::Receipt { leader: 1, slot: 1 }]
     {
@@ -137,7 +137,7 @@ fn borrowed_and_owned_records() {
     let [states, votes, network, inboxes] = kept;
     let mut damaged = Record::of(plan, states, votes, network, inboxes);
     let before = damaged.clone();
-    assert_eq!(damaged.step(Event::Prepare { rm: 0 }), Err(Refusal::Inboxes));
+    assert_eq!(damaged.step(Event::Prepare { rm: 0 }), Err(Refusal::BadInbox));
     assert_eq!(damaged, before);
 }
 
@@ -147,19 +147,19 @@ fn limits() {
         [(0, 1, 1), (17, 1, 1), (1, 0, 1), (1, 8, 1), (1, 1, 0), (1, 1, 5), (255, 255, 255)]
     {
         let plan = Plan { rms, acceptors, leaders };
-        assert_eq!(Record::fresh(plan, 1, 1), Err(Refusal::Plan));
-        assert_eq!(Message::read(plan, &[0x10, 1]), Err(Refusal::Plan));
-        assert_eq!(Message::Decision { val: Value::Aborted }.write(plan), Err(Refusal::Plan));
-        assert_eq!(rm_step(plan, &mut [], &mut [], &[]), Err(Refusal::Plan));
-        assert_eq!(acceptor_step(plan, &mut [], &mut [], &[]), Err(Refusal::Plan));
-        assert_eq!(leader_step(plan, &mut [], &mut [], &[]), Err(Refusal::Plan));
-        assert_eq!(step(plan, &mut [], &mut [], &mut [], &mut [], &[]), Err(Refusal::Plan));
+        assert_eq!(Record::fresh(plan, 1, 1), Err(Refusal::BadPlan));
+        assert_eq!(Message::read(plan, &[0x10, 1]), Err(Refusal::BadPlan));
+        assert_eq!(Message::Decision { val: Decision::Abort }.write(plan), Err(Refusal::BadPlan));
+        assert_eq!(rm_step(plan, &mut [], &mut [], &[]), Err(Refusal::BadPlan));
+        assert_eq!(acceptor_step(plan, &mut [], &mut [], &[]), Err(Refusal::BadPlan));
+        assert_eq!(leader_step(plan, &mut [], &mut [], &[]), Err(Refusal::BadPlan));
+        assert_eq!(step(plan, &mut [], &mut [], &mut [], &mut [], &[]), Err(Refusal::BadPlan));
     }
     let largest = Plan { rms: 16, acceptors: 7, leaders: 4 };
     assert!(Record::fresh(largest, MAX_SLOTS, MAX_SLOTS).is_ok());
     assert!(Record::fresh(largest, 0, 0).is_ok());
-    assert_eq!(Record::fresh(largest, usize::MAX, 1), Err(Refusal::Lengths));
-    assert_eq!(Record::fresh(largest, 1, MAX_SLOTS + 1), Err(Refusal::Lengths));
+    assert_eq!(Record::fresh(largest, usize::MAX, 1), Err(Refusal::BadLengths));
+    assert_eq!(Record::fresh(largest, 1, MAX_SLOTS + 1), Err(Refusal::BadLengths));
     assert_eq!(
         (largest.states_len(), largest.votes_len(), slots_len(1024), largest.inboxes_len(1024)),
         (16, 336, 6144, 24576)
@@ -209,12 +209,12 @@ fn delivery_keeps_tables_sound() {
             }
         }
         // The proved call judges the table: a slot beyond it is 8, not 5.
-        let judged = rm_step(plan, &mut [0; 3], &mut network, &Event::Decision { rm: 0, slot: 65535 }.bytes());
-        assert_eq!(judged, Err(Refusal::Slot));
+        let judged = rm_step(plan, &mut [0; 3], &mut network, &Event::TakeDecision { rm: 0, slot: 65535 }.bytes());
+        assert_eq!(judged, Err(Refusal::NoMessage));
     }
     assert!(delivered > 1000 && full > 1000, "{delivered} {full}");
-    assert_eq!(deliver(plan, &mut [0; 7], &[0x10, 1]), Err(Refusal::Lengths));
-    assert_eq!(deliver(plan, &mut vec![0; slots_len(1025)], &[0x10, 1]), Err(Refusal::Lengths));
+    assert_eq!(deliver(plan, &mut [0; 7], &[0x10, 1]), Err(Refusal::BadLengths));
+    assert_eq!(deliver(plan, &mut vec![0; slots_len(1025)], &[0x10, 1]), Err(Refusal::BadLengths));
     assert_eq!(deliver(plan, &mut [], &[0x10, 1]), Err(Refusal::NetworkFull));
 }
 
