@@ -16,7 +16,7 @@ use Rattle.message.specs.Rows.{Either, here, below, Applies}
 use Rattle.message.specs.Rows.Named.{row-applies}
 use Rattle.change.specs.declared.Sent.{Sent}
 use Rattle.event.specs.Event.{kindOf, whoOf, highOf, lowOf}
-use Rattle.paxos_commit.specs.PaxosCommit.{State, Commit, Abort, UnchangedMsgs}
+use Rattle.paxos_commit.specs.PaxosCommit.{Commit, Abort, UnchangedMsgs}
 use Rattle.record.specs.Record.{Tables}
 use Rattle.matching.specs.Reading.{isRM, isAcceptor, isMajoritySet, valOf, messageOf}
 use Rattle.matching.specs.Call.{Enabled, SlotHolds}
