@@ -25,7 +25,7 @@ use Rattle.slots.specs.View.Laws.{Absent, send-absent, send-absent-full}
 use Rattle.change.specs.declared.Sent.the-variants.{Slot}
 use Rattle.change.specs.declared.Update.the-variants.{Inbox}
 use Rattle.inbox.specs.Inbox.{any, is2a}
-use Rattle.leader.specs.Leader.{phase2aMessage, keepOwn}
+use Rattle.phase2a.specs.Phase2a.{phase2aMessage, keepOwn}
 
 -- the message is not in the inbox, and its place is after the messages there
 pub record Next (inbox : List Message) (m : Message) (place : ℕ) : Type 0 where

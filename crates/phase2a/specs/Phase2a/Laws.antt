@@ -13,7 +13,7 @@ use Rattle.message.specs.declared.Plan.{Plan}
 use Rattle.message.specs.Outcome.Laws.{both}
 use Rattle.message.specs.Plan.{isPlan}
 use Rattle.message.specs.Plan.Laws.{plan-bounds}
-use Rattle.leader.specs.Leader.{owns}
+use Rattle.phase2a.specs.Phase2a.{owns}
 
 pub owner : Plan → ℕ → ℕ
 owner p b = b % p .leaders

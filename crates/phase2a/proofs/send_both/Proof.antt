@@ -1,9 +1,9 @@
--- `leader::send_both` meets its contract: each arm says whether there is room in N. Assumes nothing.
-use Rattle.leader.specs.Leader.{sendBoth}
+-- `phase2a::send_both` meets its contract: each arm says whether there is room in N. Assumes nothing.
+use Rattle.phase2a.specs.Phase2a.{sendBoth}
 use Rattle.slots.specs.View.{sending}
 use borrow.Author.Needs.{needs}
-use Rattle.leader.proofs.send_both.Statement.{statement}
-use Rattle.leader.proofs.send_both.Tie as tie
+use Rattle.phase2a.proofs.send_both.Statement.{statement}
+use Rattle.phase2a.proofs.send_both.Tie as tie
 
 pub send-both-spec : {M : Type 1} → statement M
 unfolding sendBoth sending

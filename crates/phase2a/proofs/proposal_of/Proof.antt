@@ -1,8 +1,8 @@
--- `leader::proposal_of` meets its contract: each arm says which report it is. Assumes nothing.
+-- `phase2a::proposal_of` meets its contract: each arm says which report it is. Assumes nothing.
 use Rattle.inbox.specs.Inbox.{proposal}
 use borrow.Author.Needs.{needs}
-use Rattle.leader.proofs.proposal_of.Statement.{statement}
-use Rattle.leader.proofs.proposal_of.Tie as tie
+use Rattle.phase2a.proofs.proposal_of.Statement.{statement}
+use Rattle.phase2a.proofs.proposal_of.Tie as tie
 
 pub proposal-of-spec : {M : Type 1} → statement M
 unfolding proposal
