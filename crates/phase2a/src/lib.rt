@@ -7,6 +7,7 @@
 //     propose                          what an event of kind 6 comes to
 ghost use mathlib.Core.Bool.{true, not, _&&_};
 ghost use mathlib.Core.Path.{_≡_};
+ghost use lib.Dec.{leb};
 ghost use Rattle.message.specs.Outcome.{refuseIf};
 ghost use Rattle.message.specs.Codec.{readOutcome};
 ghost use Rattle.message.specs.Plan.{isPlan};
@@ -27,11 +28,11 @@ use message::Vote;
 use slots::Send;
 use slots::Store;
 
-// Whether the leader owns the ballot, in a plan in range; where it does not, 10.
+// Whether the leader owns the ballot; where it does not, 10. In a plan without leaders nobody does.
 pub fn owns_ballot(plan: Plan, who: u8, ballot: u8) -> bool
-    ensures { λ r. ⌜ r ≡ (isPlan plan && owns plan who ballot) ⌝ }
+    ensures { λ r. ⌜ r ≡ (leb 1 (plan .leaders) && owns plan who ballot) ⌝ }
 {
-    if !message::is_plan(plan) {
+    if plan.leaders < 1 {
         return false;
     }
     if ballot < 1 {

@@ -1,5 +1,7 @@
 -- `leader::phase1a_of` meets its contract: the branch decides ownership. Assumes nothing.
 use mathlib.Core.Path.{_≡_, _∙_}
+use borrow.Author.Tests.{le-leb}
+use Rattle.message.specs.Plan.Laws.{plan-bounds}
 use Rattle.message.proofs.Guards.{told, halt, pass}
 use Rattle.leader.specs.Leader.{owns, phase1a}
 use Rattle.leader.proofs.phase1a_of.Statement.{statement}
@@ -8,9 +10,9 @@ use Rattle.leader.proofs.phase1a_of.Tie as tie
 abbrev start : tie.After-owns-ballot → tie.Start
 start c = c .before .before
 
--- what the callee says of ownership, the plan being in range
+-- what the callee says of ownership; a plan in range has leaders
 owned : (c : tie.After-owns-ballot) → c .owns-ballot .result ≡ owns (start c .args .plan) (start c .args .who) (start c .args .ballot)
-owned c = c .owns-ballot .ensures ∙ rw (start c .pre)
+owned c = c .owns-ballot .ensures ∙ rw (le-leb 1 _ (plan-bounds _ (start c .pre) .leaders-least))
 
 owns-ballot-requires : tie.Need-owns-ballot-requires
 owns-ballot-requires c κs = tt

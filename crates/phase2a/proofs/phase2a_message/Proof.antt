@@ -1,6 +1,8 @@
 -- `phase2a::phase2a_message` meets its contract: each `return` is one case of `phase2aMessage`. Assumes nothing.
 use mathlib.Core.Bool.{false, not}
 use mathlib.Core.Path.{_≡_, sym, _∙_}
+use borrow.Author.Tests.{le-leb}
+use Rattle.message.specs.Plan.Laws.{plan-bounds}
 use Rattle.message.proofs.Guards.{told, halt, pass}
 use Rattle.phase2a.specs.Phase2a.{owns, phase2aMessage}
 use Rattle.phase2a.specs.Phase2a.Own.{refuses, proposes}
@@ -11,9 +13,9 @@ use Rattle.phase2a.proofs.phase2a_message.Tie as tie
 abbrev start : tie.After-owns-ballot → tie.Start
 start c = c .before .before
 
--- what the callee says of ownership, the plan being in range
+-- what the callee says of ownership; a plan in range has leaders
 owned : (c : tie.After-owns-ballot) → c .owns-ballot .result ≡ owns (start c .args .plan) (start c .args .who) (start c .args .ballot)
-owned c = c .owns-ballot .ensures ∙ rw (start c .pre)
+owned c = c .owns-ballot .ensures ∙ rw (le-leb 1 _ (plan-bounds _ (start c .pre) .leaders-least))
 
 -- past the first test row 10 does not apply
 passes : (c : tie.Else1) → not (owns (start (c .before) .args .plan) (start (c .before) .args .who) (start (c .before) .args .ballot)) ≡ false
