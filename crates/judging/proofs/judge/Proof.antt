@@ -1,13 +1,13 @@
--- `record::judge` meets its contract: each `return` is one row of `recordJudged`, rows 1 and 2 together. Assumes nothing.
+-- `judging::judge` meets its contract: each `return` is one row of `recordJudged`, rows 1 and 2 together. Assumes nothing.
 use mathlib.Core.Path.{_∙_}
 use Rattle.message.proofs.Guards.{told, halt, pass}
 use borrow.Author.Needs.{needs}
 use Rattle.tables.specs.Tables.Laws.{tables-passed}
-use Rattle.record.specs.Record.{recordJudged}
-use Rattle.record.proofs.Inboxes.{inboxes-are}
-use Rattle.record.proofs.Judging.{lengths-refused, lengths-plan, lengths-passed}
-use Rattle.record.proofs.judge.Statement.{statement}
-use Rattle.record.proofs.judge.Tie as tie
+use Rattle.judging.specs.Judging.{recordJudged}
+use Rattle.judging.proofs.Inboxes.{inboxes-are}
+use Rattle.judging.proofs.Judging.{lengths-refused, lengths-plan, lengths-passed}
+use Rattle.judging.proofs.judge.Statement.{statement}
+use Rattle.judging.proofs.judge.Tie as tie
 
 pub judge-spec : {M : Type 1} → statement M
 unfolding recordJudged

@@ -15,7 +15,8 @@ use Rattle.message.proofs.Guards.{pass}
 use Rattle.change.specs.declared.Judged.{Judged}
 use Rattle.change.specs.declared.Judged.the-variants as Judgements
 use Rattle.change.specs.Change.{judgedOutcome}
-use Rattle.record.specs.Record.{Tables, areLengths, openJudged, recordJudged}
+use Rattle.opening.specs.Opening.{Tables, areLengths, openJudged}
+use Rattle.judging.specs.Judging.{recordJudged}
 
 -- a chain of two rows that refuses does so whatever stands below them
 two-rows : {A : Type 0} (a b : Bool) (i j k : ℕ) (x : A) (rest : Outcome A)
