@@ -10,7 +10,7 @@ use change::Judged;
 use message::Plan;
 
 // The plan, the lengths, Q and N: 1, 2, 4 or 5.
-pub fn judge(plan: Plan, votes: &[u8], network: &[u8]) -> Judged
+fn judge(plan: Plan, votes: &[u8], network: &[u8]) -> Judged
     ensures { λ r. ⌜ judgedOutcome r ≡ acceptorJudged plan (now (votes .entry)) (now (network .entry)) ⌝ }
 {
     if !message::is_plan(plan) {

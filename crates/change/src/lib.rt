@@ -76,7 +76,7 @@ pub enum Verdict {
 }
 
 // The refusal's number in a verdict, 0 where it is an acceptance.
-pub fn verdict_number(verdict: Verdict) -> u8
+fn verdict_number(verdict: Verdict) -> u8
     ensures { λ r. ⌜ r ≡ numberOf (verdictOutcome verdict) ⌝ }
 {
     match verdict {
@@ -97,7 +97,7 @@ fn set_vote(votes: &mut [u8], at: usize, mbal: u8, bal: u8, val: u8)
 }
 
 // Changes a role's own table. Past the table's end nothing changes.
-pub fn apply_update(plan: Plan, table: &mut [u8], update: Update)
+fn apply_update(plan: Plan, table: &mut [u8], update: Update)
     ensures { λ _. ⌜ now (table .exit) ≡ updated plan update (now (table .entry)) ⌝ }
 {
     match update {

@@ -2,12 +2,12 @@
 --     kind-receipt, kind-phase1a, kind-phase2a, kind-commit, kind-abort
 -- Assumes nothing.
 use Prim.Native.Nat.{ℕ}
-use mathlib.Core.Bool.{Bool, true, _&&_}
+use mathlib.Core.Bool.{Bool, true, not, _&&_}
 use mathlib.Core.List.{List}
 use mathlib.Core.Path.{_≡_, _∙_, ap}
 use borrow.Author.Tests.{eq-eqb, ne-eqb}
 use Rattle.message.specs.declared.Plan.{Plan}
-use Rattle.message.specs.Outcome.{Outcome, andThen}
+use Rattle.message.specs.Outcome.{Outcome, andThen, refuseIf}
 use Rattle.message.specs.Plan.{isPlan}
 use Rattle.slots.specs.View.{View}
 use Rattle.change.specs.declared.Change.{Change}
@@ -26,9 +26,10 @@ module _ (p : Plan) (isDecided : ℕ → ℕ → Bool) (box net : View) (e : Lis
       unfolding leaderKind
       kind-phase1a h r = rw (ne-eqb kind 4 n4, eq-eqb kind 5 h) (r ∙ rw (of-who, of-high, of-low))
 
-      pub kind-phase2a : (kind ≡ 5 → ⊥) → kind ≡ 6 → o ≡ phase2a p box net who high low → o ≡ leaderKind p isDecided box net e kind
-      unfolding leaderKind
-      kind-phase2a n5 h r = rw (ne-eqb kind 4 n4, ne-eqb kind 5 n5, eq-eqb kind 6 h) (r ∙ rw (of-who, of-high, of-low))
+      pub kind-phase2a : isPlan p ≡ true → (kind ≡ 5 → ⊥) → kind ≡ 6 → o ≡ refuseIf (not (isPlan p)) 1 (phase2a p box net who high low)
+          → o ≡ leaderKind p isDecided box net e kind
+      unfolding leaderKind refuseIf
+      kind-phase2a plan n5 h r = rw (ne-eqb kind 4 n4, ne-eqb kind 5 n5, eq-eqb kind 6 h) (r ∙ rw (plan, of-who, of-high, of-low))
 
     module _ (plan : isPlan p ≡ true) (n5 : kind ≡ 5 → ⊥) (n6 : kind ≡ 6 → ⊥) (enabled : Bool) where
       pub kind-commit : kind ≡ 7 → enabled ≡ (isPlan p && forAll (p .rms) (λ i. isDecided i 1)) → o ≡ decideSend net enabled 1

@@ -1,28 +1,24 @@
 -- The step of a leader, kinds 4 to 8 (document 01, "The nine events" and "Refusals by place"). All its conditions are read from the
--- messages in its own inbox (the crate inbox).
---     owns                          which ballots a leader owns
+-- messages in its own inbox (the crate inbox). Ownership of ballots and kind 6 are the crate `phase2a`, whose definitions (owns,
+-- phase2aMessage, keepOwn, sendBoth, phase2a) have their names here too.
 --     leaderJudged                  rows 1, 2, 5 and 6: the plan and both tables
 --     receipt                       kind 4
 --     phase1a                       kind 5
---     phase2aMessage, sendBoth, phase2a     kind 6: the message that it sends, then the sending
 --     decideSend                    kinds 7 and 8
 --     leaderKind, leaderVerdict     rows 7 to 14: what an event changes, or its refusal
 --     leaderStep                    the whole call
--- The laws of ownership are in Leader/Laws.antt, what is judged in Leader/Sound.antt, and the own 2a's place in Leader/Own.antt. Assumes nothing.
-pub mod Laws
+-- What is judged is in Leader/Sound.antt. Assumes nothing.
 pub mod Sound
-pub mod Own
-use Prim.Native.Nat.{ℕ, _%_}
-use mathlib.Core.Bool.{Bool, not, _&&_, cond}
+use Prim.Native.Nat.{ℕ}
+use mathlib.Core.Bool.{Bool, not, cond}
 use mathlib.Core.List.{List}
-use lib.Dec.{ltb, leb, eqb}
+use lib.Dec.{ltb, eqb}
 use lib.ListN.{length}
 use Rattle.message.specs.declared.Plan.{Plan}
 use Rattle.message.specs.declared.Message.{Message}
 use Rattle.message.specs.declared.Message.the-variants.{Phase1a, Phase1b, Phase2a, Phase2b, Decision}
 use Rattle.message.specs.Outcome.{Outcome, accepted, refused, andThen, refuseIf}
 use Rattle.message.specs.Plan.{isPlan}
-use Rattle.slots.specs.declared.Store.{Store}
 use Rattle.slots.specs.declared.Store.the-variants.{Keep}
 use Rattle.slots.specs.Table.{isTableLength, isTable}
 use Rattle.slots.specs.View.{View, viewTable, sending}
@@ -31,12 +27,8 @@ use Rattle.change.specs.declared.Sent.the-variants.{Slot, Quiet}
 use Rattle.change.specs.declared.Update.the-variants.{Inbox}
 use Rattle.change.specs.Change.{Step, applied}
 use Rattle.event.specs.Event.{kindOf, whoOf, highOf, lowOf, slotNumber, isEvent}
-use Rattle.quorum.specs.Quorum.{isQuorum}
-use Rattle.inbox.specs.Inbox.{any, is1b, is2a, highestReport, proposal, decided, forAll, forSome}
-
--- leader l owns ballot b when b > 0 and b mod L = l
-unfoldable pub owns : Plan → ℕ → ℕ → Bool
-owns p who b = leb 1 b && eqb (b % p .leaders) who
+use Rattle.inbox.specs.Inbox.{decided, forAll, forSome}
+unfoldable pub use Rattle.phase2a.specs.Phase2a.{owns, phase2aMessage, keepOwn, sendBoth, phase2a}
 
 unfoldable pub leaderJudged : Plan → List ℕ → List ℕ → Outcome (Unit {0})
 leaderJudged p inbox network =
@@ -69,26 +61,6 @@ unfoldable pub phase1a : Plan → View → ℕ → ℕ → ℕ → Outcome Chang
 phase1a p net who i b =
     refuseIf (not (owns p who b)) 10
     (sendOnly net (Phase1a i b))
-
--- kind 6: the inbox has no 2a for (i, b), and the acceptors with a 1b there for i with mbal b are a majority; then the 2a with the value
--- of the highest report
-unfoldable pub phase2aMessage : Plan → List Message → ℕ → ℕ → ℕ → Outcome Message
-phase2aMessage p inbox who i b =
-    refuseIf (not (owns p who b)) 10
-    (refuseIf (any (is2a i b) inbox) 12
-    (refuseIf (not (isQuorum (p .acceptors) (λ a. any (is1b i b a) inbox))) 12
-    (accepted (Phase2a i b (proposal (highestReport i b inbox))))))
-
--- the own 2a is appended to the inbox unless there
-unfoldable pub keepOwn : View → Message → ℕ → Store → Outcome Change
-keepOwn box m slot store =
-    sending 14 (box .send m) (λ place kept. accepted (record { table = Inbox kept; network = store; sent = Slot slot }))
-
-unfoldable pub sendBoth : View → View → Message → Outcome Change
-sendBoth box net m = sending 13 (net .send m) (keepOwn box m)
-
-unfoldable pub phase2a : Plan → View → View → ℕ → ℕ → ℕ → Outcome Change
-phase2a p box net who i b = andThen (phase2aMessage p (box .messages) who i b) (sendBoth box net)
 
 -- kinds 7 and 8, by whether they are enabled
 unfoldable pub decideSend : View → Bool → ℕ → Outcome Change

@@ -1,19 +1,16 @@
 // The step of a leader, kinds 4 to 8, on tables that were judged: receipt, and Phase1a, Phase2a and Decide of document 001. It is lent
-// one inbox and N, and reads its conditions from that inbox alone (the crate inbox). The call by itself, which judges the tables first,
-// is the crate leader_call.
+// one inbox and N, and reads its conditions from that inbox alone (the crate inbox). Phase2a is the crate phase2a. The call by itself, which
+// judges the tables first, is the crate leader_call.
 //
 //     evaluate, perform      what an event comes to, and that stored (see the crate change)
 ghost use mathlib.Core.Bool.{true};
 ghost use mathlib.Core.Path.{_≡_};
 ghost use Rattle.message.specs.Outcome.{andThen};
-ghost use Rattle.message.specs.Codec.{readOutcome};
 ghost use Rattle.message.specs.Plan.{isPlan};
 ghost use Rattle.slots.specs.View.Bytes.{viewBytes};
 ghost use Rattle.change.specs.Change.{verdictOutcome, stepOf, applied};
-ghost use Rattle.inbox.specs.Inbox.{proposal, decided};
-ghost use Rattle.leader.specs.Leader.{owns, receiptStore, receipt, sendOnly, phase1a};
-ghost use Rattle.leader.specs.Leader.{keepOwn, sendBoth, phase2a, decideSend, leaderKind, leaderVerdict};
-ghost use Rattle.leader.specs.Leader.Own.{Next, Proposes};
+ghost use Rattle.inbox.specs.Inbox.{decided};
+ghost use Rattle.leader.specs.Leader.{receiptStore, receipt, sendOnly, phase1a, decideSend, leaderKind, leaderVerdict};
 use change::Answer;
 use change::Change;
 use change::Sent;
@@ -22,24 +19,8 @@ use change::Verdict;
 use message::Message;
 use message::Plan;
 use message::Read;
-use message::SLOT_SIZE;
-use message::Vote;
 use slots::Send;
 use slots::Store;
-
-// Whether the leader owns the ballot; where it does not, 10.
-fn owns_ballot(plan: Plan, who: u8, ballot: u8) -> bool
-    requires { ⌜ isPlan plan ≡ true ⌝ }
-    ensures { λ r. ⌜ r ≡ owns plan who ballot ⌝ }
-{
-    if ballot < 1 {
-        return false;
-    }
-    if ballot % plan.leaders != who {
-        return false;
-    }
-    true
-}
 
 // Kind 4: 14 where the message is not in the inbox and there is no room.
 fn receipt_store(plan: Plan, inbox: &[u8], m: Message) -> Verdict
@@ -103,7 +84,7 @@ fn phase1a_of(plan: Plan, network: &[u8], who: u8, instance: u8, ballot: u8) -> 
     requires { ⌜ isPlan plan ≡ true ⌝ }
     ensures { λ r. ⌜ verdictOutcome r ≡ phase1a plan (viewBytes plan (now (network .entry))) who instance ballot ⌝ }
 {
-    if !owns_ballot(plan, who, ballot) {
+    if !phase2a::owns_ballot(plan, who, ballot) {
         return Verdict::Refused(10);
     }
     send_only(
@@ -114,116 +95,6 @@ fn phase1a_of(plan: Plan, network: &[u8], who: u8, instance: u8, ballot: u8) -> 
             bal: ballot,
         },
     )
-}
-
-// The value to propose: that of the highest report, or 2 where none reports a vote.
-fn proposal_of(vote: Vote) -> u8
-    ensures { λ r. ⌜ r ≡ proposal vote ⌝ }
-{
-    match vote {
-        Vote::None => 2,
-        Vote::Cast { bal: _, val } => val,
-    }
-}
-
-// The 2a that Phase2a sends, or its refusal; and with a 2a its place, after the messages of the inbox. With a refusal the place says nothing.
-struct Proposal {
-    answer: Read,
-    place: usize,
-}
-
-// The 2a that Phase2a sends: 10 where the ballot is not owned, 12 where the inbox has a 2a of it or no majority of 1b messages.
-fn phase2a_message(plan: Plan, inbox: &[u8], who: u8, instance: u8, ballot: u8) -> Proposal
-    requires { ⌜ isPlan plan ≡ true ⌝ }
-    ensures { λ r. ⌜ Proposes plan (viewBytes plan (now (inbox .entry)) .messages) who instance ballot (readOutcome (r .answer)) (r .place) ⌝ }
-{
-    if !owns_ballot(plan, who, ballot) {
-        return Proposal {
-            answer: Read::Refused(10),
-            place: 0,
-        };
-    }
-    let reports = inbox::gather_reports(plan, inbox, instance, ballot);
-    let proposed = reports.proposed;
-    let quorum = reports.quorum;
-    let vote = reports.vote;
-    let place = reports.count;
-    if proposed {
-        return Proposal {
-            answer: Read::Refused(12),
-            place,
-        };
-    }
-    if !quorum {
-        return Proposal {
-            answer: Read::Refused(12),
-            place,
-        };
-    }
-    Proposal {
-        answer: Read::Message(Message::Phase2a {
-            ins: instance,
-            bal: ballot,
-            val: proposal_of(vote),
-        }),
-        place,
-    }
-}
-
-// The 2a is sent, and stored in its place in the inbox: 13 without room in N, then 14 without room in the inbox.
-fn send_both(plan: Plan, inbox: &[u8], network: &[u8], m: Message, place: usize) -> Verdict
-    requires { ⌜ Next (viewBytes plan (now inbox) .messages) m place ⌝ }
-    ensures { λ r. ⌜ verdictOutcome r ≡ sendBoth (viewBytes plan (now (inbox .entry))) (viewBytes plan (now (network .entry))) m ⌝ }
-{
-    let send = search::send_message(plan, network, m);
-    match send {
-        Send::Slot { slot, store } => keep_own(plan, inbox, m, place, slot, store),
-        Send::NoRoom => Verdict::Refused(13),
-    }
-}
-
-// The own 2a after the messages of the inbox; 14 where no slot is left.
-fn keep_own(
-    plan: Plan,
-    inbox: &[u8],
-    m: Message,
-    place: usize,
-    slot: usize,
-    store: Store,
-) -> Verdict
-    requires { ⌜ Next (viewBytes plan (now inbox) .messages) m place ⌝ }
-    ensures { λ r. ⌜ verdictOutcome r ≡ keepOwn (viewBytes plan (now (inbox .entry))) m slot store ⌝ }
-{
-    if inbox.len() / SLOT_SIZE <= place {
-        return Verdict::Refused(14);
-    }
-    Verdict::Accepted(Change {
-        table: Update::Inbox(Store::Put { place, m }),
-        network: store,
-        sent: Sent::Slot(slot),
-    })
-}
-
-// Kind 6: the 2a, then its sending.
-fn phase2a_of(
-    plan: Plan,
-    inbox: &[u8],
-    network: &[u8],
-    who: u8,
-    instance: u8,
-    ballot: u8,
-) -> Verdict
-    requires { ⌜ isPlan plan ≡ true ⌝ }
-    ensures { λ r. ⌜ verdictOutcome r ≡
-        phase2a plan (viewBytes plan (now (inbox .entry))) (viewBytes plan (now (network .entry))) who instance ballot ⌝ }
-{
-    let proposal = phase2a_message(plan, inbox, who, instance, ballot);
-    let answer = proposal.answer;
-    let place = proposal.place;
-    let Read::Message(m) = answer else {
-        return Verdict::Refused(codec::read_refusal(answer));
-    };
-    send_both(plan, inbox, network, m, place)
 }
 
 // Kind 4: the slot's message is taken by the reader, 8 where there is none.
@@ -263,7 +134,7 @@ fn evaluate_kind(plan: Plan, inbox: &[u8], network: &[u8], event: &[u8], kind: u
         return phase1a_of(plan, network, who, high, low);
     }
     if kind == 6 {
-        return phase2a_of(plan, inbox, network, who, high, low);
+        return phase2a::propose(plan, inbox, network, who, high, low);
     }
     if kind == 7 {
         return decide_send(plan, network, decided::is_decided_all(plan, inbox, 1), 1);

@@ -10,7 +10,7 @@ use change::Judged;
 use message::Plan;
 
 // The plan, the lengths, N and the inbox: 1, 2, 5 or 6.
-pub fn judge(plan: Plan, inbox: &[u8], network: &[u8]) -> Judged
+fn judge(plan: Plan, inbox: &[u8], network: &[u8]) -> Judged
     ensures { λ r. ⌜ judgedOutcome r ≡ leaderJudged plan (now (inbox .entry)) (now (network .entry)) ⌝ }
 {
     if !message::is_plan(plan) {

@@ -1,23 +1,18 @@
--- The part of I that the code takes, and all parts.
+-- The part of I that the code takes.
 --     part-within, part-within-of          it lies within I
 --     part-is                              it is leader l's inbox
 --     part-put                             I with other bytes in it
---     inboxes-are                          all inboxes are the equal parts of I
 -- Assumes nothing.
-use Prim.Native.Nat.{ℕ, zero, suc, _+_, _-_, _*_, _/_, _≤_, _<_}
-use mathlib.Core.Bool.{Bool, _&&_}
+use Prim.Native.Nat.{ℕ, _+_, _-_, _*_, _/_, _≤_, _<_}
 use mathlib.Core.List.{List}
-use mathlib.Core.Path.{_≡_, refl, ap}
+use mathlib.Core.Path.{_≡_}
 use native.Mathlib.Nat.{add-sub-cancel-left}
 use native.Mathlib.Omega.{arith}
 use lib.ListN.{length, take, drop}
 use lib.Seq.{drop-drop}
 use borrow.Rule.Slice.PartMut.{putMid}
 use Rattle.message.specs.declared.Plan.{Plan}
-use Rattle.slots.specs.Table.{isTable}
-use Rattle.tables.specs.Tables.{tablesUpTo, areTables}
-use Rattle.inbox.specs.Inbox.{forAll}
-use Rattle.record.specs.Record.{inboxSize, inboxOf, withInbox, areInboxes}
+use Rattle.record.specs.Record.{inboxSize, inboxOf, withInbox}
 use Rattle.record.specs.Record.Parts.{inbox-within}
 
 -- the part that the code takes
@@ -49,12 +44,3 @@ module _ (p : Plan) (inboxes : List ℕ) where
     pub part-put : (inbox : List ℕ) → putPart p inboxes l inbox ≡ withInbox p inboxes l inbox
     unfolding withInbox inboxSize
     part-put inbox = rw (add-sub-cancel-left (l * size) size, drop-drop size (l * size) inboxes)
-
-  -- as so many equal parts
-  pub inboxes-are : areTables p (p .leaders) inboxes ≡ areInboxes p inboxes
-  unfolding areTables tablesUpTo areInboxes inboxOf inboxSize forAll
-  inboxes-are = go (p .leaders)
-    where
-      go : (count : ℕ) → tablesUpTo p size count inboxes ≡ forAll count (λ l. isTable p (take size (drop (l * size) inboxes)))
-      go zero = refl
-      go (suc count) = ap (λ (b : Bool). isTable p (take size (drop (count * size) inboxes)) && b) (go count)

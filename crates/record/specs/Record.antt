@@ -1,8 +1,7 @@
 -- The order record: the event call of all nine kinds (document 01, "The plan and four tables" and "Refusals by place"). The four tables, their
--- lengths and opening them are the crate `opening`, whose definitions have their names here too.
---     inboxOf, withInbox                 leader l's inbox is the l-th equal part of I
---     areInboxes                         row 6
---     recordJudged                       rows 1 to 6: the plan and the four tables, whatever the event
+-- lengths and opening them are the crate `opening`, judging them (inboxOf, areInboxes, recordJudged) the crate `judging`; their definitions have
+-- their names here too.
+--     withInbox                          I with other bytes in one inbox
 --     RecordStep, recordStepOf, recordRefusal            what an event call answers and leaves; a refusal changes no byte
 --     onStates, onVotes, onInbox         a role's own step as a step of the record
 --     roleStep, settled, recordStep      the event call: the record and the event are judged, then the role of the event's kind takes its step
@@ -10,48 +9,27 @@
 pub mod Laws
 pub mod Parts
 use Prim.Native.Nat.{ℕ, _+_, _*_}
-use mathlib.Core.Bool.{Bool, not, cond}
+use mathlib.Core.Bool.{not, cond}
 use mathlib.Core.List.{List, _++_}
 use lib.Dec.{leb, eqb}
 use lib.ListN.{take, drop}
 use Rattle.message.specs.declared.Plan.{Plan}
 use Rattle.message.specs.Outcome.{Outcome, accepted, refused, andThen, refuseIf}
-use Rattle.message.specs.Plan.{isPlan}
-use Rattle.slots.specs.Table.{isTable}
 use Rattle.change.specs.declared.Sent.{Sent}
 use Rattle.change.specs.declared.Answer.{Answer}
 use Rattle.change.specs.Change.{Step, answerOutcome}
 use Rattle.event.specs.Event.{kindOf, whoOf, isEvent}
-use Rattle.inbox.specs.Inbox.{forAll}
-use Rattle.rm.specs.Rm.{areStates, rmStep}
-use Rattle.votes.specs.Votes.{areVotes}
+use Rattle.rm.specs.Rm.{rmStep}
 use Rattle.acceptor.specs.Acceptor.{acceptorStep}
 use Rattle.leader.specs.Leader.{leaderStep}
 pub use Rattle.opening.specs.Opening.{Tables, tablesOf, Opening, openingOf, opened}
 unfoldable pub use Rattle.opening.specs.Opening.{inboxSize, areLengths, openJudged, zeroed, recordOpen}
-
--- leader l's inbox: the l-th equal part of I
-unfoldable pub inboxOf : Plan → List ℕ → ℕ → List ℕ
-inboxOf p inboxes l = take (inboxSize p inboxes) (drop (l * inboxSize p inboxes) inboxes)
+unfoldable pub use Rattle.judging.specs.Judging.{inboxOf, areInboxes, recordJudged}
 
 -- I with other bytes in leader l's inbox
 unfoldable pub withInbox : Plan → List ℕ → ℕ → List ℕ → List ℕ
 withInbox p inboxes l inbox =
     take (l * inboxSize p inboxes) inboxes ++ (inbox ++ drop (l * inboxSize p inboxes + inboxSize p inboxes) inboxes)
-
--- row 6: each inbox by itself
-unfoldable pub areInboxes : Plan → List ℕ → Bool
-areInboxes p inboxes = forAll (p .leaders) (λ l. isTable p (inboxOf p inboxes l))
-
-unfoldable pub recordJudged : Plan → Tables → Outcome (Unit {0})
-recordJudged p t =
-    refuseIf (not (isPlan p)) 1
-    (refuseIf (not (areLengths p t)) 2
-    (refuseIf (not (areStates (t .states))) 3
-    (refuseIf (not (areVotes (t .votes))) 4
-    (refuseIf (not (isTable p (t .network))) 5
-    (refuseIf (not (areInboxes p (t .inboxes))) 6
-    (accepted tt))))))
 
 pub record RecordStep : Type 0 where
   pub answer : Outcome Sent

@@ -1,38 +1,20 @@
 // The order record: the event call of all nine kinds (document 01, "The plan and four tables" and "Refusals by place"). Opening a record is the
-// crate `opening`. Message bytes are below the roles' steps, and these below this crate, which sees only what each role promises.
+// crate `opening`, judging one the crate `judging`. Message bytes are below the roles' steps, and these below this crate, which sees only what
+// each role promises.
 //
-//     judge     the plan and the four tables
-//     step      the event call: `judge`, then `perform`, the step of the event's role, which judges the event but no table
+//     step      the event call: `judging::judge`, then `perform`, the step of the event's role, which judges the event but no table
 //
-// Both are lent W (`states`), Q (`votes`), N (`network`) and I (`inboxes`), of any content and length.
+// It is lent W (`states`), Q (`votes`), N (`network`) and I (`inboxes`), of any content and length.
 ghost use mathlib.Core.List.{List};
 ghost use mathlib.Core.Path.{_≡_};
 ghost use Prim.Native.Nat.{ℕ, _<_};
 ghost use Rattle.message.specs.Outcome.{accepted};
-ghost use Rattle.change.specs.Change.{judgedOutcome};
 ghost use Rattle.event.specs.Event.{whoOf};
 ghost use Rattle.leader.specs.Leader.{leaderJudged, leaderStep};
 ghost use Rattle.record.specs.Record.{tablesOf, inboxOf, recordJudged, recordStepOf, onInbox, recordStep};
 use change::Answer;
 use change::Judged;
 use message::Plan;
-
-// The plan, the lengths and the content of the four tables, each inbox by itself: 1 to 6.
-pub fn judge(plan: Plan, states: &[u8], votes: &[u8], network: &[u8], inboxes: &[u8]) -> Judged
-    ensures { λ r. ⌜ judgedOutcome r ≡ recordJudged plan (tablesOf (now (states .entry)) (now (votes .entry)) (now (network .entry)) (now (inboxes .entry))) ⌝ }
-{
-    let judged = opening::judge_lengths(plan, states, votes, network, inboxes);
-    let Judged::Sound = judged else {
-        return judged;
-    };
-    if !rm::are_states(states) {
-        return Judged::Refused(3);
-    }
-    if !votes::are_votes(votes) {
-        return Judged::Refused(4);
-    }
-    tables::judge(plan, network, plan.leaders as usize, inboxes)
-}
 
 // Kinds 4 to 8: the leader's step on its own inbox, a part of I, and N; whatever W and Q are.
 fn lead(plan: Plan, network: &mut [u8], inboxes: &mut [u8], event: &[u8]) -> Answer
@@ -76,7 +58,7 @@ fn perform(
     lead(plan, network, inboxes, event)
 }
 
-// The event call: what `judge` refuses, and then as `perform`; a refusal changes no byte.
+// The event call: what `judging::judge` refuses, and then as `perform`; a refusal changes no byte.
 pub fn step(
     plan: Plan,
     states: &mut [u8],
@@ -88,7 +70,7 @@ pub fn step(
     ensures { λ r. ⌜ recordStepOf r (tablesOf (now (states .exit)) (now (votes .exit)) (now (network .exit)) (now (inboxes .exit))) ≡
         recordStep plan (tablesOf (now (states .entry)) (now (votes .entry)) (now (network .entry)) (now (inboxes .entry))) (now (event .entry)) ⌝ }
 {
-    let judged = judge(plan, states, votes, network, inboxes);
+    let judged = judging::judge(plan, states, votes, network, inboxes);
     match judged {
         Judged::Refused(number) => Answer::Refused(number),
         Judged::Sound => perform(plan, states, votes, network, inboxes, event),

@@ -11,7 +11,7 @@ use change::Judged;
 use message::Plan;
 
 // The plan, the lengths, W and N: 1, 2, 3 or 5.
-pub fn judge(plan: Plan, states: &[u8], network: &[u8]) -> Judged
+fn judge(plan: Plan, states: &[u8], network: &[u8]) -> Judged
     ensures { λ r. ⌜ judgedOutcome r ≡ rmJudged plan (now (states .entry)) (now (network .entry)) ⌝ }
 {
     if !message::is_plan(plan) {

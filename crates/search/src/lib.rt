@@ -170,7 +170,7 @@ fn locate_form(table: &[u8], form: &[u8; SLOT_SIZE]) -> Place
 }
 
 // The first slot where an equal message stands, else the first unused slot, in one pass up to it; or that there is no room.
-pub fn locate_message(plan: Plan, table: &[u8], m: Message) -> Place
+fn locate_message(plan: Plan, table: &[u8], m: Message) -> Place
     ensures { λ r. ⌜ r ≡ locate (now (table .entry)) (slotOf plan m) ⌝ }
 {
     let form = message::encode(plan, m);

@@ -81,7 +81,7 @@ fn copy_form(slot: &mut [u8], form: &[u8])
 }
 
 // Puts a message, followed by zeros, into the slot at a place. Past the table's end nothing changes.
-pub fn store_message(plan: Plan, table: &mut [u8], place: usize, m: Message)
+fn store_message(plan: Plan, table: &mut [u8], place: usize, m: Message)
     ensures { λ _. ⌜ now (table .exit) ≡ storeAt (now (table .entry)) place (slotOf plan m) ⌝ }
 {
     let count = table.len() / SLOT_SIZE;

@@ -8,14 +8,14 @@ ghost use lib.Dec.{eqb};
 ghost use Rattle.slots.specs.Table.{isZero};
 
 // Zero exactly where both are.
-pub fn either(a: u8, b: u8) -> u8
+pub(crate) fn either(a: u8, b: u8) -> u8
     ensures { λ r. ⌜ eqb r 0 ≡ (eqb a 0 && eqb b 0) ⌝ }
 {
     a | b
 }
 
 // Whether a part is zeros alone. It looks at every byte, several at a time.
-pub fn is_zero(bytes: &[u8]) -> bool
+pub(crate) fn is_zero(bytes: &[u8]) -> bool
     ensures { λ r. ⌜ r ≡ isZero (now (bytes .entry)) ⌝ }
 {
     let quarter = bytes.len() / 4;

@@ -38,7 +38,7 @@ use Rattle.paxos_commit.specs.PaxosCommit as Source
 use Rattle.paxos_commit.specs.PaxosCommit.{AState, State}
 use Rattle.leader.specs.Leader.{owns, leaderJudged, receipt, phase1a, phase2aMessage, sendBoth, phase2a, decideSend}
 use Rattle.leader.specs.Leader.{leaderKind, leaderVerdict, leaderStep}
-use Rattle.leader.specs.Leader.Laws as Owners
+use Rattle.phase2a.specs.Phase2a.Laws as Owners
 use Rattle.leader.specs.Leader.Sound.{judged}
 use Rattle.matching.specs.Reading.{messageOf, setOf}
 use Rattle.matching.specs.Call.{Stores, Sends}

@@ -22,7 +22,7 @@ use Rattle.paxos_commit.specs.PaxosCommit.Safety.Rm.{inv-rm-prepare, inv-rm-cho
 use Rattle.paxos_commit.specs.PaxosCommit.Safety.Leader.{inv-phase1a, inv-phase2a, inv-decide-commit, inv-decide-abort}
 use Rattle.paxos_commit.specs.PaxosCommit.Safety.Acceptor.{inv-phase1b, inv-phase2b}
 use Rattle.leader.specs.Leader.{owns}
-use Rattle.leader.specs.Leader.Laws.{one-owner, owns-above}
+use Rattle.phase2a.specs.Phase2a.Laws.{one-owner, owns-above}
 use Rattle.record.specs.Record.{Tables, tablesOf, inboxSize, withInbox}
 use Rattle.record.specs.Record.Laws.{Sound, inbox-whole}
 use Rattle.record.specs.Record.Parts.{length-inboxOf}

@@ -16,7 +16,7 @@ use Rattle.event.specs.Event.{kindOf, whoOf, highOf, lowOf}
 use Rattle.paxos_commit.specs.PaxosCommit.{State, Message, Commit, Abort, UnchangedMsgs, PCNext, Phase2a, Phase1b, Phase2b}
 use Rattle.paxos_commit.specs.PaxosCommit.Safety.Leader.{phase2a-of-part, decide-commit-of-part, decide-abort-of-part}
 use Rattle.leader.specs.Leader.{owns}
-use Rattle.leader.specs.Leader.Laws.{owns-above}
+use Rattle.phase2a.specs.Phase2a.Laws.{owns-above}
 use Rattle.record.specs.Record.{Tables, tablesOf}
 use Rattle.matching.specs.Reading.{isRM, isAcceptor, isMajoritySet, valOf, messageOf}
 use Rattle.matching.specs.Call.{SlotHolds}
