@@ -10,12 +10,14 @@
 --     owner-rule                    leader l owns ballot b when b > 0 and b mod L = l
 --     range-words                   row 17: what is in range, of each of the six messages
 --     majority-rule                 a majority is a set of acceptors with 2 × size > A
---     inboxes-joined, inbox-replaced     I is its L inboxes one after the other, each of one size; one is replaced without the others
+--     inboxes-joined, inboxes-up-to, inbox-replaced     I is its L inboxes one after the other, each of one size; one is replaced without the others
+--     sound-words                   the tables that a role's own call is not lent are as rows 2, 3, 4 and 6 ask
+--     lowest-words                  what `Lowest` says of an answer
 --     tables-mean, open-means, step-means, role-means, read-means     what the records and enums in the contracts stand for: nothing but their parts
 -- Assumes nothing.
-use Prim.Native.Nat.{ℕ, _+_, _*_, _%_, _≤_, _<_}
+use Prim.Native.Nat.{ℕ, suc, _+_, _*_, _%_, _≤_, _<_}
 use mathlib.Core.Bool.{Bool, true}
-use mathlib.Core.List.{List, [], _∷_}
+use mathlib.Core.List.{List, [], _∷_, _++_}
 use mathlib.Core.Logic.{_⊎_, _↔_}
 use mathlib.Core.Path.{_≡_, refl}
 use lib.ListN.{length, getD}
@@ -24,7 +26,8 @@ use Rattle.message.specs.declared.Message.{Message}
 use Rattle.message.specs.declared.Message.the-variants.{Phase1a, Phase1b, Phase2a, Phase2b, Decision}
 use Rattle.message.specs.declared.Vote.the-variants.{None, Cast}
 use Rattle.message.specs.declared.Read.the-variants as Reads
-use Rattle.message.specs.Outcome.{accepted, refused}
+use Rattle.message.specs.Outcome.{Outcome, accepted, refused}
+use Rattle.message.specs.Rows.{Rows, Applies, Lowest}
 use Rattle.message.specs.Codec.{readOutcome}
 use Rattle.message.specs.Plan.{isPlan}
 use Rattle.message.specs.Form.{isInRange}
@@ -42,7 +45,7 @@ use Rattle.leader.specs.Leader.{owns}
 use Rattle.record.specs.Record.{Tables, tablesOf, inboxSize, inboxOf, withInbox, openingOf, recordStepOf}
 use Rattle.record.specs.Record.Parts as Parts
 use Rattle.matching.specs.Call.{HeldBy}
-use Rattle.conformance.specs.Record.{EventForm, inboxesUpTo}
+use Rattle.conformance.specs.Record.{EventForm, inboxesUpTo, SoundStates, SoundVotes, SoundInboxes, SoundOthers}
 use Rattle.conformance.specs.Record.Words as Laws
 
 pub plan-range : (p : Plan)
@@ -135,3 +138,23 @@ role-means sent k table network = (refl, refl)
 
 pub read-means : (m : Message) (k : ℕ) → (readOutcome (Reads.Message m) ≡ accepted m) × (readOutcome (Reads.Refused k) ≡ refused k)
 read-means m k = (refl, refl)
+
+-- the first inboxes: none, then one more each time
+pub inboxes-up-to : (p : Plan) (inboxes : List ℕ) (l : ℕ)
+    → (inboxesUpTo p inboxes 0 ≡ []) × (inboxesUpTo p inboxes (suc l) ≡ inboxesUpTo p inboxes l ++ inboxOf p inboxes l)
+unfolding inboxesUpTo
+inboxes-up-to p inboxes l = (refl, refl)
+
+pub sound-words : (p : Plan) (t : Tables) (l : ℕ)
+    → (SoundStates p t ↔ ((length (t .states) ≡ p .rms) × (areStates (t .states) ≡ true)))
+    × (SoundVotes p t ↔ ((length (t .votes) ≡ 3 * (p .rms * p .acceptors)) × (areVotes (t .votes) ≡ true)))
+    × (SoundInboxes p t ↔ ((length (t .inboxes) % p .leaders ≡ 0) × (isTableLength (inboxSize p (t .inboxes)) ≡ true)
+    × ((k : ℕ) → k < p .leaders → isTable p (inboxOf p (t .inboxes) k) ≡ true)))
+    × (SoundOthers p t l ↔ ((length (t .inboxes) % p .leaders ≡ 0)
+    × ((k : ℕ) → k < p .leaders → (k ≡ l → ⊥) → isTable p (inboxOf p (t .inboxes) k) ≡ true)))
+sound-words p t l = ((λ h. h, λ h. h), (λ h. h, λ h. h), (λ h. h, λ h. h), (λ h. h, λ h. h))
+
+pub lowest-words : {A : Type 0} (rows : Rows) (answer : Outcome A) → Lowest rows answer
+    → ((k : ℕ) → (answer ≡ refused k) ↔ (Applies rows k × ((j : ℕ) → j < k → Applies rows j → ⊥)))
+    × (((a : A) × (answer ≡ accepted a)) ↔ ((k : ℕ) → Applies rows k → ⊥))
+lowest-words rows answer h = (h .refuses, h .accepts)

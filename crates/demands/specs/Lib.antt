@@ -1,5 +1,7 @@
 -- The demands.
 --     Answer       what demand 1 says of every call's answer
+--     Words        what that says of a refusal, in numbers
 --     Theorems     the page: demands 1, 2 and 3 and the byte form, stated in full
 pub mod Answer
+pub mod Words
 pub mod Theorems

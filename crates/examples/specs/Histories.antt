@@ -3,6 +3,7 @@
 --     order, fresh          the plan and the fresh record
 --     committing, aborting, declining     the lists of calls
 --     orders-end            what they answer, and W afterwards
+--     on, unused, refusals     each number of the event call, on tables given byte by byte
 --     spread, places        three weights, three acceptors and two leaders: where each call puts its bytes in the four tables
 -- Assumes nothing.
 use Prim.Native.Nat.{ℕ}
@@ -10,7 +11,7 @@ use mathlib.Core.List.{List, [], _∷_, _++_}
 use mathlib.Core.Path.{_≡_, refl}
 use lib.ListN.{replicate}
 use Rattle.message.specs.declared.Plan.{Plan}
-use Rattle.message.specs.Outcome.{accepted, refused, andThen, refuseIf}
+use Rattle.message.specs.Outcome.{Outcome, accepted, refused, andThen, refuseIf}
 use Rattle.message.specs.Plan.{isPlan, isCount}
 use Rattle.message.specs.Form.{isValue, isVote, isInRange, bytesOf, bytesOf1b, messageLength, slotOf, mapLengths, mapLength, fieldsMessage, decode}
 use Rattle.message.specs.Codec.{readMessage}
@@ -19,6 +20,7 @@ use Rattle.slots.specs.Table.{isTableLength, slotsUpTo, slots, isZero, readSlot
 use Rattle.slots.specs.Send.{sameMessage, placeFrom, placeIn, messageAt}
 use Rattle.slots.specs.View.{sending}
 use Rattle.event.specs.Event.{slotNumber, whoLimit, areZero, areArguments, isEvent}
+use Rattle.change.specs.declared.Sent.{Sent}
 use Rattle.change.specs.declared.Sent.the-variants.{Slot, Quiet}
 use Rattle.rm.specs.Rm.{areStates, rmJudged, rmChoose, rmReceiveDecision, rmReceive, rmKind, rmVerdict, rmStep}
 use Rattle.votes.specs.Votes.{isVoteState, areVotes}
@@ -89,3 +91,44 @@ unfolding readMessage andThen refuseIf isPlan isCount isValue isVote isInRange b
     receiptStore receipt phase1a phase2aMessage keepOwn sendBoth phase2a sendOnly decideSend leaderKind leaderVerdict leaderStep
     inboxSize inboxOf withInbox areLengths areInboxes recordJudged roleStep recordStep
 places = refl
+
+-- an event call on a record of one weight, one acceptor and one leader: its answer
+abbrev pub on : List ℕ → List ℕ → List ℕ → List ℕ → List ℕ → Outcome Sent
+on w q n i e = recordStep order (tablesOf w q n i) e .answer
+
+-- one unused slot
+abbrev pub unused : List ℕ
+unused = 0 ∷ 0 ∷ 0 ∷ 0 ∷ 0 ∷ 0 ∷ []
+
+-- each row of "Refusals by place" for the event call, in bytes
+pub refusals :
+    (recordStep (record { rms = 0; acceptors = 1; leaders = 1 }) (tablesOf [] [] [] []) (0 ∷ 0 ∷ 0 ∷ 0 ∷ []) .answer ≡ refused 1)
+    × (on (0 ∷ 0 ∷ []) (0 ∷ 0 ∷ 0 ∷ []) unused unused (0 ∷ 0 ∷ 0 ∷ 0 ∷ []) ≡ refused 2)
+    × (on (4 ∷ []) (0 ∷ 0 ∷ 3 ∷ []) unused unused (0 ∷ 0 ∷ 0 ∷ 0 ∷ []) ≡ refused 3)
+    × (on (0 ∷ []) (0 ∷ 0 ∷ 3 ∷ []) unused unused (0 ∷ 0 ∷ 0 ∷ 0 ∷ []) ≡ refused 4)
+    × (on (0 ∷ []) (0 ∷ 1 ∷ 0 ∷ []) unused unused (0 ∷ 0 ∷ 0 ∷ 0 ∷ []) ≡ refused 4)
+    × (on (0 ∷ []) (0 ∷ 0 ∷ 0 ∷ []) (0x10 ∷ 3 ∷ 0 ∷ 0 ∷ 0 ∷ 0 ∷ []) unused (0 ∷ 0 ∷ 0 ∷ 0 ∷ []) ≡ refused 5)
+    × (on (0 ∷ []) (0 ∷ 0 ∷ 0 ∷ []) (unused ++ (0x10 ∷ 1 ∷ 0 ∷ 0 ∷ 0 ∷ 0 ∷ [])) unused (0 ∷ 0 ∷ 0 ∷ 0 ∷ []) ≡ refused 5)
+    × (on (0 ∷ []) (0 ∷ 0 ∷ 0 ∷ []) unused (0x10 ∷ 1 ∷ 1 ∷ 0 ∷ 0 ∷ 0 ∷ []) (0 ∷ 0 ∷ 0 ∷ 0 ∷ []) ≡ refused 6)
+    × (on (0 ∷ []) (0 ∷ 0 ∷ 0 ∷ []) unused unused (0 ∷ 0 ∷ 0 ∷ 0 ∷ 0 ∷ []) ≡ refused 7)
+    × (on (0 ∷ []) (0 ∷ 0 ∷ 0 ∷ []) unused unused (9 ∷ 0 ∷ 0 ∷ 0 ∷ []) ≡ refused 7)
+    × (on (0 ∷ []) (0 ∷ 0 ∷ 0 ∷ []) unused unused (2 ∷ 0 ∷ 0 ∷ 0 ∷ []) ≡ refused 8)
+    × (on (0 ∷ []) (0 ∷ 0 ∷ 0 ∷ []) (0x09 ∷ 0 ∷ 1 ∷ 0 ∷ 0 ∷ 0 ∷ []) unused (2 ∷ 0 ∷ 0 ∷ 0 ∷ []) ≡ refused 9)
+    × (on (0 ∷ []) (0 ∷ 0 ∷ 0 ∷ []) (0x10 ∷ 1 ∷ 0 ∷ 0 ∷ 0 ∷ 0 ∷ []) unused (3 ∷ 0 ∷ 0 ∷ 0 ∷ []) ≡ refused 9)
+    × (on (0 ∷ []) (0 ∷ 0 ∷ 0 ∷ []) (0x19 ∷ 0 ∷ 0 ∷ 1 ∷ 0 ∷ 0 ∷ []) unused (4 ∷ 0 ∷ 0 ∷ 0 ∷ []) ≡ refused 9)
+    × (on (0 ∷ []) (0 ∷ 0 ∷ 0 ∷ []) unused unused (5 ∷ 0 ∷ 0 ∷ 0 ∷ []) ≡ refused 10)
+    × (on (0 ∷ []) (0 ∷ 0 ∷ 0 ∷ []) (0x10 ∷ 1 ∷ 0 ∷ 0 ∷ 0 ∷ 0 ∷ []) unused (2 ∷ 0 ∷ 0 ∷ 0 ∷ []) ≡ refused 11)
+    × (on (3 ∷ []) (0 ∷ 0 ∷ 0 ∷ []) (0x10 ∷ 1 ∷ 0 ∷ 0 ∷ 0 ∷ 0 ∷ []) unused (2 ∷ 0 ∷ 0 ∷ 0 ∷ []) ≡ refused 11)
+    × (on (2 ∷ []) (0 ∷ 0 ∷ 0 ∷ []) (0x10 ∷ 2 ∷ 0 ∷ 0 ∷ 0 ∷ 0 ∷ []) unused (2 ∷ 0 ∷ 0 ∷ 0 ∷ []) ≡ refused 11)
+    × (on (1 ∷ []) (0 ∷ 0 ∷ 0 ∷ []) unused unused (0 ∷ 0 ∷ 0 ∷ 0 ∷ []) ≡ refused 12)
+    × (on (0 ∷ []) (0 ∷ 0 ∷ 0 ∷ []) (0x10 ∷ 2 ∷ 0 ∷ 0 ∷ 0 ∷ 0 ∷ []) unused (0 ∷ 0 ∷ 0 ∷ 0 ∷ []) ≡ refused 13)
+    × (on (0 ∷ []) (0 ∷ 0 ∷ 0 ∷ []) (0x07 ∷ 0 ∷ 0 ∷ 1 ∷ 0 ∷ 0 ∷ []) (0x07 ∷ 0 ∷ 0 ∷ 2 ∷ 0 ∷ 0 ∷ []) (4 ∷ 0 ∷ 0 ∷ 0 ∷ []) ≡ refused 14)
+unfolding readMessage andThen refuseIf isPlan isCount isValue isVote isInRange bytesOf bytesOf1b messageLength slotOf mapLengths
+    mapLength fieldsMessage decode all isTableLength slotsUpTo slots isZero readSlot readTable allUnused isOrdered isTable usedMessages
+    messages sameBytes storeAt sameMessage placeFrom placeIn messageAt sending slotNumber whoLimit areZero areArguments isEvent
+    areStates rmJudged rmChoose rmReceiveDecision rmReceive rmKind rmVerdict rmStep voteAt
+    isVoteState areVotes acceptorJudged voteOf phase1b phase2b acceptorReceive acceptorVerdict acceptorStep countAcceptors isMajority
+    isQuorum any is1b is2a is2b higher reportOf highestReport proposal chosen isChosen2b decided forAll forSome owns leaderJudged
+    receiptStore receipt phase1a phase2aMessage keepOwn sendBoth phase2a sendOnly decideSend leaderKind leaderVerdict leaderStep
+    inboxSize inboxOf withInbox areLengths areInboxes recordJudged roleStep recordStep
+refusals = (refl, refl, refl, refl, refl, refl, refl, refl, refl, refl, refl, refl, refl, refl, refl, refl, refl, refl, refl, refl, refl)

@@ -5,9 +5,13 @@
 --     packed-means   byte k of a number of eight bytes stands at 256^k
 --     Answerable     what a step can answer: a slot below 1,024, quiet, or a refusal
 --     one-answer     two of them with the same number are one
+--     answerable, bytes-mean     that is a slot below 1,024, quiet, or any refusal; a byte is below 256
 -- Assumes nothing.
 use Prim.Native.Nat.{ℕ, _+_, _*_, _<_}
 use mathlib.Core.List.{List, [], _∷_}
+use mathlib.Core.Bool.{true, _&&_}
+use lib.Dec.{ltb}
+use Rattle.slots.specs.All.{all}
 use mathlib.Core.Path.{_≡_, refl, ap}
 use native.Mathlib.Omega.{arith}
 use Rattle.message.specs.Outcome.{Outcome, accepted, refused}
@@ -15,7 +19,7 @@ use Rattle.slots.specs.Table.{maxSlots}
 use Rattle.change.specs.declared.Sent.{Sent}
 use Rattle.change.specs.declared.Sent.the-variants.{Slot, Quiet}
 use Rattle.change.specs.Change.{Step}
-use Rattle.host_code.specs.Code.{planOf, answerCode, hostStep, hostStepOf, packed}
+use Rattle.host_code.specs.Code.{planOf, answerCode, hostStep, hostStepOf, packed, areBytes}
 use Rattle.host_code.specs.Code.Laws.{slotCode}
 
 pub plan-means : (n A L : ℕ) → (planOf n A L .rms ≡ n) × (planOf n A L .acceptors ≡ A) × (planOf n A L .leaders ≡ L)
@@ -53,3 +57,10 @@ one-answer (accepted Quiet) (refused j) h k e = absurd (omega arith)
 one-answer (refused i) (accepted (Slot t)) h k e = absurd (omega (arith, slotCode t k))
 one-answer (refused i) (accepted Quiet) h k e = absurd (omega arith)
 one-answer (refused i) (refused j) h k e = let same : i ≡ j = omega arith in ap refused same
+
+pub answerable : (s k : ℕ) → (s < 1024 → Answerable (accepted (Slot s))) × Answerable (accepted Quiet) × Answerable (refused k)
+answerable s k = (λ h. h, tt, tt)
+
+pub bytes-mean : (x : ℕ) (xs : List ℕ) → (areBytes [] ≡ true) × (areBytes (x ∷ xs) ≡ (ltb x 256 && areBytes xs))
+unfolding areBytes all
+bytes-mean x xs = (refl, refl)

@@ -2,7 +2,7 @@
 --     message-of-zero       byte 0 of the reader's number is 0 exactly for a message
 --     one-message           no number stands for two messages; a message's fields are bytes
 --     messageOf-fieldsOf    the map and the fields of a message are, for the writer, that message
---     read-examples, write-examples     numbers that the reader and the writer give, computed: every field has a value of its own
+--     read-examples, write-examples, other-examples     numbers that the reader and the writer give, computed: every field has a value of its own
 -- Assumes nothing.
 use Prim.Native.Nat.{ℕ, _%_, _<_}
 use mathlib.Core.Bool.{true}
@@ -75,3 +75,13 @@ pub write-examples : (writtenCode (hostWrite (planOf 16 7 4) 0x1F 5 3 9 8 2) ≡
     × (writtenCode (hostWrite (planOf 1 1 1) 0x11 0 0 0 0 1) ≡ 15)
 unfolding hostWrite messageOf writtenCode writeMessage refuseIf isPlan isCount isInRange isVote isValue bytesOf bytesOf1b messageLength slotOf
 write-examples = (refl, refl, refl, refl, refl)
+
+-- the other three messages, read and written: 1a and 1b of instance 5, 2a at ballot 8 for 2, and Abort
+pub other-examples : (readCode (readMessage (planOf 16 7 4) (0x09 ∷ 5 ∷ 8 ∷ [])) ≡ 0x080000050900)
+    × (readCode (readMessage (planOf 16 7 4) (0x07 ∷ 5 ∷ 3 ∷ 9 ∷ [])) ≡ 0x0903050700)
+    × (readCode (readMessage (planOf 16 7 4) (0x10 ∷ 2 ∷ [])) ≡ 0x02000000001000)
+    × (writtenCode (hostWrite (planOf 16 7 4) 0x07 5 3 9 8 2) ≡ 0x090305070400)
+    × (writtenCode (hostWrite (planOf 16 7 4) 0x19 5 3 9 8 2) ≡ 0x020805190400)
+    × (writtenCode (hostWrite (planOf 16 7 4) 0x10 5 3 9 8 2) ≡ 0x02100200)
+unfolding readMessage refuseIf isPlan isCount mapLength mapLengths decode fieldsMessage isInRange isVote isValue hostWrite messageOf writtenCode writeMessage bytesOf bytesOf1b messageLength slotOf
+other-examples = (refl, refl, refl, refl, refl, refl)

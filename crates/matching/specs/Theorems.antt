@@ -9,6 +9,7 @@
 --     well-formed         rows 5 and 6 in terms of messages
 --     rm-member, acceptor-member, leader-member, leader-instance     the process and the instance of an accepted event are the plan's
 --     leader-proposal, one-owner     the value that a leader proposes; the ballots that it owns
+--     constants-mean, reports-exactly     what a plan's constants are; what a report is
 -- Each action is at the plan's constants; the variables that are no business of the role (`aState`, `rmState`) are any.
 -- Assumes nothing.
 use Prim.Native.Nat.{ℕ, _+_, _≤_, _<_}
@@ -43,7 +44,9 @@ use Rattle.matching.specs.Rm.Laws as Rm
 use Rattle.matching.specs.Acceptor.{Phase1bAction, Phase2bAction, stateOf as acceptorState, reportOf, acceptorRows}
 use Rattle.matching.specs.Acceptor.Ruled.{acceptor-ruled}
 use Rattle.matching.specs.Acceptor.Laws as Acceptor
-use mathlib.Core.Bool.{true}
+use mathlib.Core.Bool.{Bool, true}
+use mathlib.Core.List.{List·Memᴰ}
+use Rattle.quorum.specs.Quorum.{isQuorum}
 use Rattle.message.specs.declared.Vote.the-variants.{Cast}
 use Rattle.message.specs.Plan.{isPlan}
 use Rattle.leader.specs.Leader.{owns, leaderJudged, leaderStep}
@@ -245,3 +248,13 @@ one-owner = Leader.owner-one
 -- ballot 0 has none
 pub no-owner : (p : Plan) (l : ℕ) → owns p l 0 ≡ true → ⊥
 no-owner = Leader.owner-none
+
+-- a plan's constants: n resource managers, A acceptors, both from 0; a majority is a set of acceptors with 2 × size > A (`majority-rule`)
+pub constants-mean : (p : Plan) (k : ℕ) (MS : ℕ → Bool)
+    → (isRM p k ↔ (k < p .rms))
+    × (isAcceptor p k ↔ (k < p .acceptors))
+    × (isMajoritySet p MS ↔ (((ac : ℕ) → MS ac ≡ true → ac < p .acceptors) × (isQuorum (p .acceptors) MS ≡ true)))
+constants-mean p k MS = ((λ h. h, λ h. h), (λ h. h, λ h. h), (λ h. h, λ h. h))
+
+pub reports-exactly : (ms : List Wire.Message) (i b c : ℕ) → Reports ms i b c ↔ ((a v : ℕ) × List·Memᴰ (Phase1b i a b (Cast c v)) ms)
+reports-exactly ms i b c = (λ h. h, λ h. h)

@@ -1,14 +1,22 @@
--- What the predicates in the paper's theorems (Theorems.antt) say, in document 01's numbers: 0 working, 1 prepared, 2 committed, 3 aborted.
---     row-types, row-consistent     TCTypeOK and TCConsistent of a row of states
---     state-types                   PCTypeOK: the row, and each message in msgs
---     first-state                   PCInit
+-- What the two ported modules say, in document 01's numbers: 0 working, 1 prepared, 2 committed, 3 aborted.
+--     row-types, row-consistent                      TCTypeOK and TCConsistent of a row of states
+--     first-row, next-row, step-row, spec-row        TCInit, TCNext, TCStep and TCSpec
+--     state-types, message-words, assume-words       PCTypeOK: the row, and each message in msgs; the set Message; the ASSUME
+--     first-state, step-words, spec-words            PCInit, PCStep and PCSpec
+--     next-all                  each action in all its ranges is a PCNext (that there is no other: next-cases of Theorems.antt)
+--     proposes-one, next-one    an action has one next state, Phase2a for each value that it may propose
+--     enabled-words             when an action is enabled, at every size
 -- Assumes nothing.
-use Prim.Native.Nat.{ℕ, _≤_, _<_}
-use mathlib.Core.Bool.{Bool}
-use mathlib.Core.Logic.{_⊎_, _↔_}
-use mathlib.Core.Path.{_≡_}
-use Rattle.tcommit.specs.TCommit.{TCTypeOK, TCConsistent}
-use Rattle.paxos_commit.specs.PaxosCommit.{Val, prepared, aborted, none, Bal, minusOne, Message, phase1a, phase1b, phase2a, phase2b, State, PCTypeOK, PCInit}
+use Prim.Native.Nat.{ℕ, suc, _≤_, _<_}
+use mathlib.Core.Bool.{Bool, true, cond}
+use mathlib.Core.Logic.{_⊎_, inl, inr, _↔_}
+use mathlib.Core.Path.{_≡_, refl, sym, _∙_}
+use lib.Dec.{eqb}
+use Rattle.tcommit.specs.TCommit.{except, TCTypeOK, TCConsistent, TCInit, TCNext, TCStep, TCSpec}
+use Rattle.paxos_commit.specs.PaxosCommit.{Val, prepared, aborted, none, Bal, minusOne, State}
+use Rattle.paxos_commit.specs.PaxosCommit.{Message, phase1a, phase1b, phase2a, phase2b, Commit, Abort, IsMessage}
+use Rattle.paxos_commit.specs.PaxosCommit.{Assume, PCTypeOK, PCInit, PCNext, PCStep, PCSpec}
+use Rattle.paxos_commit.specs.PaxosCommit as Module
 
 module _ (RM : ℕ → Type 0) (row : ℕ → ℕ) where
   pub row-types : TCTypeOK RM row ↔ ((rm : ℕ) → RM rm → row rm ≤ 3)
@@ -16,6 +24,23 @@ module _ (RM : ℕ → Type 0) (row : ℕ → ℕ) where
 
   pub row-consistent : TCConsistent RM row ↔ ((i j : ℕ) → RM i → RM j → row i ≡ 3 → row j ≡ 2 → ⊥)
   row-consistent = (λ h. h, λ h. h)
+
+module _ (RM : ℕ → Type 0) (row row′ : ℕ → ℕ) where
+  pub first-row : TCInit RM row ↔ ((rm : ℕ) → RM rm → row rm ≡ 0)
+  first-row = (λ h. h, λ h. h)
+
+  pub next-row : TCNext RM row row′
+      ↔ ((rm : ℕ) × RM rm
+      × (((row rm ≡ 0) × (row′ ≡ λ y. cond (eqb y rm) 1 (row y)))
+      ⊎ (((row rm ≡ 1) × ((i : ℕ) → RM i → (row i ≡ 1) ⊎ (row i ≡ 2)) × (row′ ≡ λ y. cond (eqb y rm) 2 (row y)))
+      ⊎ (((row rm ≡ 0) ⊎ (row rm ≡ 1)) × ((i : ℕ) → RM i → row i ≡ 2 → ⊥) × (row′ ≡ λ y. cond (eqb y rm) 3 (row y))))))
+  next-row = (λ h. h, λ h. h)
+
+  pub step-row : TCStep RM row row′ ↔ (TCNext RM row row′ ⊎ (row′ ≡ row))
+  step-row = (λ h. h, λ h. h)
+
+pub spec-row : (RM : ℕ → Type 0) (rows : ℕ → ℕ → ℕ) → TCSpec RM rows ↔ (TCInit RM (rows 0) × ((t : ℕ) → TCStep RM (rows t) (rows (suc t))))
+spec-row RM rows = (λ h. h, λ h. h)
 
 module _ (RM Acceptor : ℕ → Type 0) (Majority : (ℕ → Bool) → Type 0) (s : State) where
   -- a 1a has an instance and a ballot above 0, a 1b an instance and an acceptor, a 2a an instance and a value, a 2b all three
@@ -38,3 +63,103 @@ module _ (RM Acceptor : ℕ → Type 0) (Majority : (ℕ → Bool) → Type 0) (
       × ((i a : ℕ) → RM i → Acceptor a → s .aState i a ≡ record { mbal = 0; bal = minusOne; val = none })
       × ((m : Message) → s .msgs m → ⊥))
   first-state = (λ h. h, λ h. h)
+
+module _ (RM Acceptor : ℕ → Type 0) (Majority : (ℕ → Bool) → Type 0) where
+  pub assume-words : Assume RM Acceptor Majority
+      ↔ (((MS : ℕ → Bool) → Majority MS → (ac : ℕ) → MS ac ≡ true → Acceptor ac)
+      × ((MS1 MS2 : ℕ → Bool) → Majority MS1 → Majority MS2 → (ac : ℕ) × (MS1 ac ≡ true) × (MS2 ac ≡ true)))
+  assume-words = (λ h. h, λ h. h)
+
+  pub message-words : (i m a b : ℕ) (r : Bal) (v w : Val)
+      → (IsMessage RM Acceptor Majority (phase1a i b) ↔ (RM i × (0 < b)))
+      × (IsMessage RM Acceptor Majority (phase1b i m r w a) ↔ (RM i × Acceptor a))
+      × (IsMessage RM Acceptor Majority (phase2a i b v) ↔ (RM i × ((v ≡ prepared) ⊎ (v ≡ aborted))))
+      × (IsMessage RM Acceptor Majority (phase2b a i b v) ↔ (Acceptor a × RM i × ((v ≡ prepared) ⊎ (v ≡ aborted))))
+  message-words i m a b r v w = ((λ h. h, λ h. h), (λ h. h, λ h. h), (λ h. h, λ h. h), (λ h. h, λ h. h))
+
+  pub spec-words : (state : ℕ → State) → PCSpec RM Acceptor Majority state
+      ↔ (PCInit RM Acceptor Majority (state 0) × ((t : ℕ) → PCStep RM Acceptor Majority (state t) (state (suc t))))
+  spec-words state = (λ h. h, λ h. h)
+
+  module _ (s s′ : State) where
+    pub step-words : PCStep RM Acceptor Majority s s′
+        ↔ (PCNext RM Acceptor Majority s s′
+        ⊎ ((s′ .rmState ≡ s .rmState) × (s′ .aState ≡ s .aState) × ((x : Message) → s′ .msgs x ↔ s .msgs x)))
+    step-words = (λ h. h, λ h. h)
+
+    -- each action, in all its ranges, is a PCNext
+    pub next-all :
+        ((rm : ℕ) → RM rm → Module.RMPrepare RM Acceptor Majority rm s s′ ⊎ (Module.RMChooseToAbort RM Acceptor Majority rm s s′
+        ⊎ (Module.RMRcvCommitMsg RM Acceptor Majority rm s s′ ⊎ Module.RMRcvAbortMsg RM Acceptor Majority rm s s′)) → PCNext RM Acceptor Majority s s′)
+        × ((bal rm : ℕ) → RM rm → 0 < bal → Module.Phase1a RM Acceptor Majority bal rm s s′ ⊎ Module.Phase2a RM Acceptor Majority bal rm s s′
+        → PCNext RM Acceptor Majority s s′)
+        × (Module.Decide RM Acceptor Majority s s′ → PCNext RM Acceptor Majority s s′)
+        × ((acc : ℕ) → Acceptor acc → Module.Phase1b RM Acceptor Majority acc s s′ ⊎ Module.Phase2b RM Acceptor Majority acc s s′
+        → PCNext RM Acceptor Majority s s′)
+    next-all = (
+      λ rm q h. inl (rm, q, h),
+      λ bal rm q l h. inr (inl (bal, rm, q, l, h)),
+      λ h. inr (inr (inl h)),
+      λ acc k h. inr (inr (inr (acc, k, h))),
+    )
+
+    -- a 2a is sent, and nothing else happens
+    pub proposes-one : (seen : Message → Type 0) (bal rm : ℕ) → Module.Phase2aFrom RM Acceptor Majority seen bal rm s s′
+        → (v : Val) × ((x : Message) → s′ .msgs x ↔ (s .msgs x ⊎ (x ≡ phase2a rm bal v))) × (s′ .rmState ≡ s .rmState) × (s′ .aState ≡ s .aState)
+    proposes-one seen bal rm (unsent, (MS, many, v, heard, p, sent), row, same) = (v, sent, row, same)
+
+  -- every other action has one next state
+  module _ (s s′ s″ : State) where
+    both : (m : Message) → ((x : Message) → s′ .msgs x ↔ (s .msgs x ⊎ (x ≡ m))) → ((x : Message) → s″ .msgs x ↔ (s .msgs x ⊎ (x ≡ m)))
+        → (x : Message) → s′ .msgs x → s″ .msgs x
+    both m h k x i = k x .1 (h x .0 i)
+
+    pub next-one : (rm acc bal ins : ℕ) (v : Val) (decided : ℕ → Val → Type 0)
+        → (Module.RMPrepare RM Acceptor Majority rm s s′ × Module.RMPrepare RM Acceptor Majority rm s s″)
+        ⊎ ((Module.RMChooseToAbort RM Acceptor Majority rm s s′ × Module.RMChooseToAbort RM Acceptor Majority rm s s″)
+        ⊎ ((Module.RMRcvCommitMsg RM Acceptor Majority rm s s′ × Module.RMRcvCommitMsg RM Acceptor Majority rm s s″)
+        ⊎ ((Module.RMRcvAbortMsg RM Acceptor Majority rm s s′ × Module.RMRcvAbortMsg RM Acceptor Majority rm s s″)
+        ⊎ ((Module.Phase1a RM Acceptor Majority bal rm s s′ × Module.Phase1a RM Acceptor Majority bal rm s s″)
+        ⊎ ((Module.Phase1bOn RM Acceptor Majority acc ins bal s s′ × Module.Phase1bOn RM Acceptor Majority acc ins bal s s″)
+        ⊎ ((Module.Phase2bOn RM Acceptor Majority acc ins bal v s s′ × Module.Phase2bOn RM Acceptor Majority acc ins bal v s s″)
+        ⊎ ((Module.DecideCommitWhere RM Acceptor Majority decided s s′ × Module.DecideCommitWhere RM Acceptor Majority decided s s″)
+        ⊎ (Module.DecideAbortWhere RM Acceptor Majority decided s s′ × Module.DecideAbortWhere RM Acceptor Majority decided s s″))))))))
+        → (s′ .rmState ≡ s″ .rmState) × (s′ .aState ≡ s″ .aState) × ((x : Message) → s′ .msgs x → s″ .msgs x)
+    next-one rm acc bal ins v d (inl ((a, r, m, q), (a′, r′, m′, q′))) = (r ∙ sym r′, q ∙ sym q′, both _ m m′)
+    next-one rm acc bal ins v d (inr (inl ((a, r, m, q), (a′, r′, m′, q′)))) = (r ∙ sym r′, q ∙ sym q′, both _ m m′)
+    next-one rm acc bal ins v d (inr (inr (inl ((a, r, q, m), (a′, r′, q′, m′))))) = (r ∙ sym r′, q ∙ sym q′, λ x i. m′ x .1 (m x .0 i))
+    next-one rm acc bal ins v d (inr (inr (inr (inl ((a, r, q, m), (a′, r′, q′, m′)))))) = (r ∙ sym r′, q ∙ sym q′, λ x i. m′ x .1 (m x .0 i))
+    next-one rm acc bal ins v d (inr (inr (inr (inr (inl ((m, r, q), (m′, r′, q′))))))) = (r ∙ sym r′, q ∙ sym q′, both _ m m′)
+    next-one rm acc bal ins v d (inr (inr (inr (inr (inr (inl ((a, g, q, m, r), (a′, g′, q′, m′, r′)))))))) = (r ∙ sym r′, q ∙ sym q′, both _ m m′)
+    next-one rm acc bal ins v d (inr (inr (inr (inr (inr (inr (inl ((a, g, q, m, r), (a′, g′, q′, m′, r′))))))))) = (r ∙ sym r′, q ∙ sym q′, both _ m m′)
+    next-one rm acc bal ins v d (inr (inr (inr (inr (inr (inr (inr (inl ((a, m, r, q), (a′, m′, r′, q′)))))))))) = (r ∙ sym r′, q ∙ sym q′, both _ m m′)
+    next-one rm acc bal ins v d (inr (inr (inr (inr (inr (inr (inr (inr ((a, m, r, q), (a′, m′, r′, q′)))))))))) = (r ∙ sym r′, q ∙ sym q′, both _ m m′)
+
+-- when an action is enabled, at every size
+module _ (RM Acceptor : ℕ → Type 0) (Majority : (ℕ → Bool) → Type 0) (s : State) where
+  abbrev next : (ℕ → ℕ) → (ℕ → ℕ → Module.AState) → Message → State
+  next row states m = record { rmState = row; aState = states; msgs = λ x. s .msgs x ⊎ (x ≡ m) }
+
+  pub enabled-words : (rm acc bal ins : ℕ) (v : Val) (decided : ℕ → Val → Type 0)
+      → (Module.Enabled RM Acceptor Majority (Module.RMPrepare RM Acceptor Majority rm) s → s .rmState rm ≡ 0)
+      × (s .rmState rm ≡ 0 → Module.Enabled RM Acceptor Majority (Module.RMPrepare RM Acceptor Majority rm) s)
+      × (s .rmState rm ≡ 0 → Module.Enabled RM Acceptor Majority (Module.RMChooseToAbort RM Acceptor Majority rm) s)
+      × (s .msgs Commit → Module.Enabled RM Acceptor Majority (Module.RMRcvCommitMsg RM Acceptor Majority rm) s)
+      × (s .msgs Abort → Module.Enabled RM Acceptor Majority (Module.RMRcvAbortMsg RM Acceptor Majority rm) s)
+      × (Module.Enabled RM Acceptor Majority (Module.Phase1a RM Acceptor Majority bal rm) s)
+      × (s .msgs (phase1a ins bal) → s .aState ins acc .mbal < bal → Module.Enabled RM Acceptor Majority (Module.Phase1bOn RM Acceptor Majority acc ins bal) s)
+      × (s .msgs (phase2a ins bal v) → s .aState ins acc .mbal ≤ bal → Module.Enabled RM Acceptor Majority (Module.Phase2bOn RM Acceptor Majority acc ins bal v) s)
+      × (((i : ℕ) → RM i → decided i prepared) → Module.Enabled RM Acceptor Majority (Module.DecideCommitWhere RM Acceptor Majority decided) s)
+      × ((i : ℕ) → RM i → decided i aborted → Module.Enabled RM Acceptor Majority (Module.DecideAbortWhere RM Acceptor Majority decided) s)
+  enabled-words rm acc bal ins v decided = (
+    λ (s′, h). h .0,
+    λ w. (next (except (s .rmState) rm 1) (s .aState) (phase2a rm 0 prepared), (w, refl, λ x. (λ h. h, λ h. h), refl)),
+    λ w. (next (except (s .rmState) rm 3) (s .aState) (phase2a rm 0 aborted), (w, refl, λ x. (λ h. h, λ h. h), refl)),
+    λ w. (record { rmState = except (s .rmState) rm 2; aState = s .aState; msgs = s .msgs }, (w, refl, refl, λ x. (λ h. h, λ h. h))),
+    λ w. (record { rmState = except (s .rmState) rm 3; aState = s .aState; msgs = s .msgs }, (w, refl, refl, λ x. (λ h. h, λ h. h))),
+    (next (s .rmState) (s .aState) (phase1a rm bal), (λ x. (λ h. h, λ h. h), refl, refl)),
+    λ w l. (next (s .rmState) _ _, (w, l, refl, λ x. (λ h. h, λ h. h), refl)),
+    λ w l. (next (s .rmState) _ _, (w, l, refl, λ x. (λ h. h, λ h. h), refl)),
+    λ all. (next (s .rmState) (s .aState) Commit, (all, λ x. (λ h. h, λ h. h), refl, refl)),
+    λ i q d. (next (s .rmState) (s .aState) Abort, ((i, q, d), λ x. (λ h. h, λ h. h), refl, refl)),
+  )

@@ -7,10 +7,11 @@
 --     record-behaviour       it is a behaviour of PCSpec
 --     record-commits         so W is one of TCSpec
 --     record-one-decision    and N never holds both Commit and Abort
+--     state-at, published-means, sent-in     what the definitions here say
 -- Assumes nothing.
 use Prim.Native.Nat.{ℕ, zero, suc}
 use mathlib.Core.List.{List, [], _∷_}
-use mathlib.Core.Logic.{inl, inr, ⊎-elim}
+use mathlib.Core.Logic.{_⊎_, _↔_, inl, inr, ⊎-elim}
 use mathlib.Core.Path.{_≡_, refl, ap}
 use lib.ListN.{take}
 use Rattle.message.specs.declared.Plan.{Plan}
@@ -18,10 +19,11 @@ use Rattle.message.specs.Outcome.{Outcome, accepted, refused}
 use Rattle.change.specs.declared.Sent.{Sent}
 use Rattle.event.specs.Event.{kindOf}
 use Rattle.tcommit.specs.TCommit.{TCSpec}
-use Rattle.paxos_commit.specs.PaxosCommit.{State, Commit, Abort, PCNext, PCStep, PCSpec}
+use Rattle.paxos_commit.specs.PaxosCommit.{State, Message, Commit, Abort, PCNext, PCStep, PCSpec}
 use Rattle.paxos_commit.specs.Theorems.{paxos-commit-implements, one-decision}
 use Rattle.record.specs.Record.{Tables, recordStep}
-use Rattle.matching.specs.Reading.{isRM, isAcceptor, isMajoritySet, rmStateOf, aStateOf}
+use Rattle.slots.specs.Table.{messages}
+use Rattle.matching.specs.Reading.{isRM, isAcceptor, isMajoritySet, setOf, rmStateOf, aStateOf}
 use Rattle.matching.specs.Theorems.{majorities-meet}
 use Rattle.matching.specs.Call.{Accepted}
 use Rattle.conformance.specs.Record.{recordState}
@@ -102,3 +104,17 @@ module _ (p : Plan) (t : Tables) (fresh : Fresh t) (calls : List Call) where
 
   pub record-one-decision : (n : ℕ) → sentIn p (tablesAfter p t (take n calls)) Commit → sentIn p (tablesAfter p t (take n calls)) Abort → ⊥
   record-one-decision = one-decision (isRM p) (isAcceptor p) (isMajoritySet p) (majorities-meet p .1) (stateAt p t calls) record-behaviour
+
+module _ (p : Plan) (t : Tables) where
+  pub state-at : (calls : List Call) (n : ℕ) → stateAt p t calls n ≡ recordState p (tablesAfter p t (take n calls))
+  state-at calls n = refl
+
+  pub published-means : (e : List ℕ) → Published p t e
+      → ((sent : Sent) → recordStep p t e .answer ≡ accepted sent → (kindOf e ≡ 4 → ⊥)
+      → PCNext (isRM p) (isAcceptor p) (isMajoritySet p) (recordState p t) (recordState p (recordStep p t e .tables)))
+      × ((kindOf e ≡ 4) ⊎ ((k : ℕ) × (recordStep p t e .answer ≡ refused k))
+      → (recordStep p t e .tables .states ≡ t .states) × (recordStep p t e .tables .votes ≡ t .votes) × (recordStep p t e .tables .network ≡ t .network))
+  published-means e h = (h .acts, ⊎-elim (h .receipt) (λ (k, is). h .refusal k is))
+
+  pub sent-in : (x : Message) → sentIn p t x ↔ setOf (messages p (t .network)) x
+  sent-in x = (λ h. h, λ h. h)

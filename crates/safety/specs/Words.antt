@@ -4,6 +4,8 @@
 --                        if none is 2
 --     step-words         what `Safe` calls a step of Transaction Commit is such a step
 --     SafeInWords        W is as before the call, or one such step further; it does not hold both a 2 and a 3; the answer is not 11
+--     safe-words         what `Safe` says of a call is that
+--     words-mean         and that is document 01's text, written out
 --     demand-3-words     so it is after each call of every list from a fresh record
 -- Assumes nothing.
 use Prim.Native.Nat.{ℕ, zero, suc, _<_}
@@ -73,12 +75,24 @@ each-of-each : (p : Plan) (P Q : Tables → RecordStep → Type 0) → ((t : Tab
 each-of-each p P Q next t [] h = tt
 each-of-each p P Q next t (c ∷ cs) h = (next t (made p t c) (h .0), each-of-each p P Q next (made p t c .tables) cs (h .1))
 
+pub safe-words : (p : Plan) (t : Tables) (r : RecordStep) → Safe p t r → SafeInWords p t r
+safe-words p t r safe = (
+  ⊎-elim inl (λ next. inr (step-words p (t .states) (r .tables .states) (safe .same-length) next)) (safe .path),
+  λ i j two three. safe .agreed (member-at (r .tables .states) i 2 (omega arith) two) (member-at (r .tables .states) j 3 (omega arith) three),
+  safe .not-contradicted,
+)
+
+-- written out
+pub words-mean : (p : Plan) (t : Tables) (r : RecordStep) → SafeInWords p t r
+    → ((r .tables .states ≡ t .states)
+    ⊎ ((i v : ℕ) × (i < p .rms)
+    × (r .tables .states ≡ set (t .states) i v)
+    × (((getD (t .states) i 0 ≡ 0) × (v ≡ 1))
+    ⊎ (((getD (t .states) i 0 ≡ 1) × (v ≡ 2) × ((j : ℕ) → j < p .rms → (getD (t .states) j 0 ≡ 1) ⊎ (getD (t .states) j 0 ≡ 2)))
+    ⊎ (((getD (t .states) i 0 ≡ 0) ⊎ (getD (t .states) i 0 ≡ 1)) × (v ≡ 3) × ((j : ℕ) → j < p .rms → getD (t .states) j 0 ≡ 2 → ⊥))))))
+    × ((i j : ℕ) → getD (r .tables .states) i 0 ≡ 2 → getD (r .tables .states) j 0 ≡ 3 → ⊥)
+    × (r .answer ≡ refused 11 → ⊥)
+words-mean p t r h = h
+
 pub demand-3-words : (p : Plan) (t : Tables) → Fresh t → (calls : List Call) → AfterEach p (SafeInWords p) t calls
-demand-3-words p t fresh calls = each-of-each p (Safe p) (SafeInWords p) words t calls (demand-3 p t fresh calls)
-  where
-    words : (u : Tables) (r : RecordStep) → Safe p u r → SafeInWords p u r
-    words u r safe = (
-      ⊎-elim inl (λ next. inr (step-words p (u .states) (r .tables .states) (safe .same-length) next)) (safe .path),
-      λ i j two three. safe .agreed (member-at (r .tables .states) i 2 (omega arith) two) (member-at (r .tables .states) j 3 (omega arith) three),
-      safe .not-contradicted,
-    )
+demand-3-words p t fresh calls = each-of-each p (Safe p) (SafeInWords p) (safe-words p) t calls (demand-3 p t fresh calls)
