@@ -109,22 +109,22 @@ module _ (RM Acceptor : ℕ → Type 0) (Majority : (ℕ → Bool) → Type 0) w
     proposes-one seen bal rm (unsent, (MS, many, v, heard, p, sent), row, same) = (v, sent, row, same)
 
   -- every other action has one next state
-  module _ (s s′ s″ : State) where
-    both : (m : Message) → ((x : Message) → s′ .msgs x ↔ (s .msgs x ⊎ (x ≡ m))) → ((x : Message) → s″ .msgs x ↔ (s .msgs x ⊎ (x ≡ m)))
-        → (x : Message) → s′ .msgs x → s″ .msgs x
+  module _ (s s′ u : State) where
+    both : (m : Message) → ((x : Message) → s′ .msgs x ↔ (s .msgs x ⊎ (x ≡ m))) → ((x : Message) → u .msgs x ↔ (s .msgs x ⊎ (x ≡ m)))
+        → (x : Message) → s′ .msgs x → u .msgs x
     both m h k x i = k x .1 (h x .0 i)
 
     pub next-one : (rm acc bal ins : ℕ) (v : Val) (decided : ℕ → Val → Type 0)
-        → (Module.RMPrepare RM Acceptor Majority rm s s′ × Module.RMPrepare RM Acceptor Majority rm s s″)
-        ⊎ ((Module.RMChooseToAbort RM Acceptor Majority rm s s′ × Module.RMChooseToAbort RM Acceptor Majority rm s s″)
-        ⊎ ((Module.RMRcvCommitMsg RM Acceptor Majority rm s s′ × Module.RMRcvCommitMsg RM Acceptor Majority rm s s″)
-        ⊎ ((Module.RMRcvAbortMsg RM Acceptor Majority rm s s′ × Module.RMRcvAbortMsg RM Acceptor Majority rm s s″)
-        ⊎ ((Module.Phase1a RM Acceptor Majority bal rm s s′ × Module.Phase1a RM Acceptor Majority bal rm s s″)
-        ⊎ ((Module.Phase1bOn RM Acceptor Majority acc ins bal s s′ × Module.Phase1bOn RM Acceptor Majority acc ins bal s s″)
-        ⊎ ((Module.Phase2bOn RM Acceptor Majority acc ins bal v s s′ × Module.Phase2bOn RM Acceptor Majority acc ins bal v s s″)
-        ⊎ ((Module.DecideCommitWhere RM Acceptor Majority decided s s′ × Module.DecideCommitWhere RM Acceptor Majority decided s s″)
-        ⊎ (Module.DecideAbortWhere RM Acceptor Majority decided s s′ × Module.DecideAbortWhere RM Acceptor Majority decided s s″))))))))
-        → (s′ .rmState ≡ s″ .rmState) × (s′ .aState ≡ s″ .aState) × ((x : Message) → s′ .msgs x → s″ .msgs x)
+        → (Module.RMPrepare RM Acceptor Majority rm s s′ × Module.RMPrepare RM Acceptor Majority rm s u)
+        ⊎ ((Module.RMChooseToAbort RM Acceptor Majority rm s s′ × Module.RMChooseToAbort RM Acceptor Majority rm s u)
+        ⊎ ((Module.RMRcvCommitMsg RM Acceptor Majority rm s s′ × Module.RMRcvCommitMsg RM Acceptor Majority rm s u)
+        ⊎ ((Module.RMRcvAbortMsg RM Acceptor Majority rm s s′ × Module.RMRcvAbortMsg RM Acceptor Majority rm s u)
+        ⊎ ((Module.Phase1a RM Acceptor Majority bal rm s s′ × Module.Phase1a RM Acceptor Majority bal rm s u)
+        ⊎ ((Module.Phase1bOn RM Acceptor Majority acc ins bal s s′ × Module.Phase1bOn RM Acceptor Majority acc ins bal s u)
+        ⊎ ((Module.Phase2bOn RM Acceptor Majority acc ins bal v s s′ × Module.Phase2bOn RM Acceptor Majority acc ins bal v s u)
+        ⊎ ((Module.DecideCommitWhere RM Acceptor Majority decided s s′ × Module.DecideCommitWhere RM Acceptor Majority decided s u)
+        ⊎ (Module.DecideAbortWhere RM Acceptor Majority decided s s′ × Module.DecideAbortWhere RM Acceptor Majority decided s u))))))))
+        → (s′ .rmState ≡ u .rmState) × (s′ .aState ≡ u .aState) × ((x : Message) → s′ .msgs x → u .msgs x)
     next-one rm acc bal ins v d (inl ((a, r, m, q), (a′, r′, m′, q′))) = (r ∙ sym r′, q ∙ sym q′, both _ m m′)
     next-one rm acc bal ins v d (inr (inl ((a, r, m, q), (a′, r′, m′, q′)))) = (r ∙ sym r′, q ∙ sym q′, both _ m m′)
     next-one rm acc bal ins v d (inr (inr (inl ((a, r, q, m), (a′, r′, q′, m′))))) = (r ∙ sym r′, q ∙ sym q′, λ x i. m′ x .1 (m x .0 i))
