@@ -22,7 +22,9 @@ use Rattle.inbox.specs.Inbox.{any, is1b, is2a, is2b, higher, reportOf, highestR
 use Rattle.leader.specs.Leader.{owns, leaderJudged, receiptStore, receipt, phase1a, phase2aMessage, keepOwn, sendBoth, phase2a, sendOnly, decideSend, leaderKind, leaderVerdict, leaderStep}
 use Rattle.ending.specs.Ending.{areAll, endingOf}
 use Rattle.record.specs.Record.{inboxSize, areLengths, inboxOf, withInbox, areInboxes, recordJudged, roleStep, recordStep}
-use Rattle.rehearsing.specs.Rehearsal.{ascii, callsIn, freshTables, line, textOf, rehearsed}
+use Rattle.rehearsal_format.specs.Input.{planIn, eventsIn}
+use Rattle.rehearsal_format.specs.Text.{ascii, line}
+use Rattle.rehearsing.specs.Rehearsal.{callsIn, freshTables, textOf, printedFor, rehearsed}
 
 abbrev pub input-01 : List ℕ
 input-01 =
@@ -36,7 +38,7 @@ unfolding andThen refuseIf isPlan isCount isValue isVote isInRange bytesOf bytes
     acceptorStep countAcceptors isMajority isQuorum any is1b is2a is2b higher reportOf highestReport proposal chosen isChosen2b decided forAll forSome
     owns leaderJudged receiptStore receipt phase1a phase2aMessage keepOwn sendBoth phase2a sendOnly decideSend leaderKind leaderVerdict leaderStep
     inboxSize areLengths inboxOf withInbox areInboxes recordJudged roleStep recordStep areAll endingOf
-    callsIn freshTables line textOf rehearsed
+    planIn eventsIn callsIn freshTables line textOf printedFor rehearsed
 document-01 = refl
 
 pub record Example : Type 0 where
@@ -67,5 +69,5 @@ unfolding examples andThen refuseIf isPlan isCount isValue isVote isInRange byte
     acceptorStep countAcceptors isMajority isQuorum any is1b is2a is2b higher reportOf highestReport proposal chosen isChosen2b decided forAll forSome
     owns leaderJudged receiptStore receipt phase1a phase2aMessage keepOwn sendBoth phase2a sendOnly decideSend leaderKind leaderVerdict leaderStep
     inboxSize areLengths inboxOf withInbox areInboxes recordJudged roleStep recordStep areAll endingOf
-    callsIn freshTables line textOf rehearsed
+    planIn eventsIn callsIn freshTables line textOf printedFor rehearsed
 examples-hold = refl
