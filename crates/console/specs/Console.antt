@@ -1,6 +1,7 @@
 -- What a read leaves in its buffer, as far as a contract can say it.
 --     Filled     the buffer is as long as it was, and no more bytes are counted than it has
--- Assumes nothing.
+-- Its laws are in Console/Laws.antt. Assumes nothing.
+pub mod Laws
 use Prim.Native.Nat.{ℕ, _≤_}
 use mathlib.Core.List.{List}
 use mathlib.Core.Path.{_≡_}
