@@ -2,7 +2,7 @@
 // tried, with the message that its slot holds, what the call answered, with the message that was sent, and the row of states afterwards.
 // Where a read or a write fails it says so on standard error, and stops.
 //
-//     say_number, say_with            a number, and words that lead to one
+//     say_number, say_with, say_both  a number, and words that lead to one or two
 //     say_value .. say_message        a message in words
 //     say_refusal                     a refusal by its name and number
 //     say_event                       what an event tries; an event's message is the one in its slot of N
@@ -50,9 +50,26 @@ fn say_number(output: &mut [u8], at: usize, number: u64) -> usize {
 }
 
 // Words, and the number that they lead to.
-fn say_with(output: &mut [u8], at: usize, words: &[u8], number: u8) -> usize {
+fn say_count(output: &mut [u8], at: usize, words: &[u8], number: u64) -> usize {
     let at = put_words(output, at, words);
-    say_number(output, at, number as u64)
+    say_number(output, at, number)
+}
+
+fn say_with(output: &mut [u8], at: usize, words: &[u8], number: u8) -> usize {
+    say_count(output, at, words, number as u64)
+}
+
+// Words and a number, twice.
+fn say_both(
+    output: &mut [u8],
+    at: usize,
+    words: &[u8],
+    number: u8,
+    more: &[u8],
+    last: u8,
+) -> usize {
+    let at = say_with(output, at, words, number);
+    say_with(output, at, more, last)
 }
 
 fn say_value(output: &mut [u8], at: usize, val: u8) -> usize {
@@ -64,63 +81,66 @@ fn say_value(output: &mut [u8], at: usize, val: u8) -> usize {
 
 fn say_decision(output: &mut [u8], at: usize, val: u8) -> usize {
     match val {
-        1 => put_words(output, at, b"Commit"),
-        _ => put_words(output, at, b"Abort"),
+        1 => put_words(output, at, b"the decision is Commit"),
+        _ => put_words(output, at, b"the decision is Abort"),
     }
+}
+
+// Words, a value, and the ballot that other words lead to.
+fn say_valued(output: &mut [u8], at: usize, words: &[u8], val: u8, more: &[u8], bal: u8) -> usize {
+    let at = put_words(output, at, words);
+    let at = say_value(output, at, val);
+    say_with(output, at, more, bal)
 }
 
 fn say_vote(output: &mut [u8], at: usize, vote: Vote) -> usize {
     match vote {
         Vote::None => put_words(output, at, b", reports no vote"),
-        Vote::Cast { bal, val } => {
-            let at = put_words(output, at, b", reports ");
-            let at = say_value(output, at, val);
-            say_with(output, at, b" at ", bal)
-        }
+        Vote::Cast { bal, val } => say_valued(output, at, b", reports ", val, b" at ", bal),
     }
+}
+
+fn say_1b(output: &mut [u8], at: usize, ins: u8, acc: u8, mbal: u8, vote: Vote) -> usize {
+    let at = say_both(output, at, b"acceptor ", acc, b" promises ballot ", mbal);
+    let at = say_with(output, at, b" for weight ", ins);
+    say_vote(output, at, vote)
+}
+
+fn say_2a(output: &mut [u8], at: usize, ins: u8, bal: u8, val: u8) -> usize {
+    let at = say_with(output, at, b"weight ", ins);
+    say_valued(output, at, b" is proposed as ", val, b" at ballot ", bal)
+}
+
+fn say_2b(output: &mut [u8], at: usize, ins: u8, acc: u8, bal: u8, val: u8) -> usize {
+    let at = say_both(output, at, b"acceptor ", acc, b" votes for weight ", ins);
+    say_valued(output, at, b" as ", val, b" at ballot ", bal)
 }
 
 fn say_message(output: &mut [u8], at: usize, m: Message) -> usize {
     match m {
-        Message::Phase1a { ins, bal } => {
-            let at = say_with(output, at, b"call for promises of ballot ", bal);
-            say_with(output, at, b" for weight ", ins)
-        }
+        Message::Phase1a { ins, bal } => say_both(
+            output,
+            at,
+            b"call for promises of ballot ",
+            bal,
+            b" for weight ",
+            ins,
+        ),
         Message::Phase1b {
             ins,
             acc,
             mbal,
             vote,
-        } => {
-            let at = say_with(output, at, b"acceptor ", acc);
-            let at = say_with(output, at, b" promises ballot ", mbal);
-            let at = say_with(output, at, b" for weight ", ins);
-            say_vote(output, at, vote)
-        }
-        Message::Phase2a { ins, bal, val } => {
-            let at = say_with(output, at, b"weight ", ins);
-            let at = put_words(output, at, b" is proposed as ");
-            let at = say_value(output, at, val);
-            say_with(output, at, b" at ballot ", bal)
-        }
-        Message::Phase2b { ins, acc, bal, val } => {
-            let at = say_with(output, at, b"acceptor ", acc);
-            let at = say_with(output, at, b" votes for weight ", ins);
-            let at = put_words(output, at, b" as ");
-            let at = say_value(output, at, val);
-            say_with(output, at, b" at ballot ", bal)
-        }
-        Message::Decision { val } => {
-            let at = put_words(output, at, b"the decision is ");
-            say_decision(output, at, val)
-        }
+        } => say_1b(output, at, ins, acc, mbal, vote),
+        Message::Phase2a { ins, bal, val } => say_2a(output, at, ins, bal, val),
+        Message::Phase2b { ins, acc, bal, val } => say_2b(output, at, ins, acc, bal, val),
+        Message::Decision { val } => say_decision(output, at, val),
     }
 }
 
 // A slot of N and the message in it, where there is one.
 fn say_slot(output: &mut [u8], at: usize, plan: Plan, network: &[u8], slot: usize) -> usize {
-    let at = put_words(output, at, b"slot ");
-    let at = say_number(output, at, slot as u64);
+    let at = say_count(output, at, b"slot ", slot as u64);
     let Read::Message(m) = slots::message_at(plan, network, slot) else {
         return put_words(output, at, b", where no message is");
     };
@@ -156,16 +176,26 @@ fn say_refusal(output: &mut [u8], at: usize, number: u8) -> usize {
     put_words(output, at, b")")
 }
 
+// Words, and the slot that an event names.
+fn say_taken(
+    output: &mut [u8],
+    at: usize,
+    words: &[u8],
+    plan: Plan,
+    network: &[u8],
+    event: &[u8],
+) -> usize {
+    let at = put_words(output, at, words);
+    say_slot(output, at, plan, network, event::slot_number(event))
+}
+
 // Kinds 0, 1 and 2.
 fn say_rm_event(output: &mut [u8], at: usize, plan: Plan, network: &[u8], event: &[u8]) -> usize {
     let at = say_with(output, at, b"weight ", message::byte_at(event, 1));
     match message::byte_at(event, 0) {
         0 => put_words(output, at, b" prepares"),
         1 => put_words(output, at, b" chooses to abort"),
-        _ => {
-            let at = put_words(output, at, b" takes ");
-            say_slot(output, at, plan, network, event::slot_number(event))
-        }
+        _ => say_taken(output, at, b" takes ", plan, network, event),
     }
 }
 
@@ -178,14 +208,14 @@ fn say_acceptor_event(
     event: &[u8],
 ) -> usize {
     let at = say_with(output, at, b"acceptor ", message::byte_at(event, 1));
-    let at = put_words(output, at, b" takes ");
-    say_slot(output, at, plan, network, event::slot_number(event))
+    say_taken(output, at, b" takes ", plan, network, event)
 }
 
-// The ballot and the instance of kinds 5 and 6.
-fn say_ballot(output: &mut [u8], at: usize, event: &[u8]) -> usize {
-    let at = say_with(output, at, b" ballot ", message::byte_at(event, 3));
-    say_with(output, at, b" for weight ", message::byte_at(event, 2))
+// Words, and the ballot and the instance of kinds 5 and 6.
+fn say_ballot(output: &mut [u8], at: usize, words: &[u8], event: &[u8]) -> usize {
+    let bal = message::byte_at(event, 3);
+    let ins = message::byte_at(event, 2);
+    say_both(output, at, words, bal, b" for weight ", ins)
 }
 
 // Kinds 4 to 8.
@@ -198,18 +228,9 @@ fn say_leader_event(
 ) -> usize {
     let at = say_with(output, at, b"leader ", message::byte_at(event, 1));
     match message::byte_at(event, 0) {
-        4 => {
-            let at = put_words(output, at, b" takes into its inbox ");
-            say_slot(output, at, plan, network, event::slot_number(event))
-        }
-        5 => {
-            let at = put_words(output, at, b" begins");
-            say_ballot(output, at, event)
-        }
-        6 => {
-            let at = put_words(output, at, b" proposes at");
-            say_ballot(output, at, event)
-        }
+        4 => say_taken(output, at, b" takes into its inbox ", plan, network, event),
+        5 => say_ballot(output, at, b" begins ballot ", event),
+        6 => say_ballot(output, at, b" proposes at ballot ", event),
         7 => put_words(output, at, b" decides Commit"),
         _ => put_words(output, at, b" decides Abort"),
     }
@@ -246,12 +267,13 @@ fn say_event(output: &mut [u8], at: usize, plan: Plan, network: &[u8], event: &[
 }
 
 fn say_sent(output: &mut [u8], at: usize, plan: Plan, network: &[u8], sent: Sent) -> usize {
+    let at = put_words(output, at, b"accepted");
     match sent {
         Sent::Slot(slot) => {
-            let at = put_words(output, at, b"accepted, stands in ");
+            let at = put_words(output, at, b", stands in ");
             say_slot(output, at, plan, network, slot)
         }
-        Sent::Quiet => put_words(output, at, b"accepted"),
+        Sent::Quiet => at,
     }
 }
 
