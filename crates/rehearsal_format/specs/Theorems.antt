@@ -3,16 +3,15 @@
 --     events-count, events-first, rest-ignored     at most 8,192 events; few are all given; the rest plays no part
 --     event-examples                    whole and cut events, and how many there are
 --     line-examples, word-bytes         lines and words as ASCII
---     put-room, put-nothing             a text that has room, and one that has none
+--     put-room, put-nothing, put-cut    a text that has room, one that has none, and one that has some
 -- Assumes nothing.
-use Prim.Native.Nat.{ℕ, _+_, _-_, _*_, _≤_, min}
+use Prim.Native.Nat.{ℕ, _+_, _-_, _≤_, min}
 use mathlib.Core.List.{List, [], _∷_, _++_, map}
-use mathlib.Core.Path.{_≡_, refl, sym, _∙_, ap}
+use mathlib.Core.Path.{_≡_, refl, _∙_, ap}
 use native.Mathlib.Omega.{arith}
 use lib.ListN.{length, take, drop, length-take, length-drop}
 use lib.Seq.{take-all, take-append-le, drop-append-le}
-use Rattle.message.specs.declared.Plan.{Plan}
-use Rattle.message.specs.Outcome.{Outcome, accepted, refused, refuseIf}
+use Rattle.message.specs.Outcome.{accepted, refused, refuseIf}
 use Rattle.message.specs.Plan.{isPlan, isCount}
 use Rattle.ending.specs.declared.Ending.the-variants.{Committed, Aborted, Open}
 use Rattle.rehearsal_format.specs.Input.{planIn, eventsIn, eventCount, eventAt}

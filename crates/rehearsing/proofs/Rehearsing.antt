@@ -14,7 +14,7 @@ use lib.ListN.{length, take}
 use lib.Seq.{length-take-le}
 use borrow.Author.Tests.{lt-ltb, le-ltb}
 use Rattle.message.specs.declared.Plan.{Plan}
-use Rattle.message.specs.Outcome.{Outcome, accepted, refused}
+use Rattle.message.specs.Outcome.{accepted}
 use Rattle.message.specs.Plan.{isPlan}
 use Rattle.message.specs.Plan.Laws.{plan-bounds}
 use Rattle.slots.specs.Table.{isTableLength}
@@ -54,7 +54,8 @@ module _ (input output : List ℕ) where
   unfolding rehearsal
   nothing-put h = rw (lt-ltb (length output) 24586 h)
 
-  pub rehearsal-put : 24586 ≤ length output → (text : List ℕ) → text ≡ rehearsed input → (s : Put) → s ≡ put 0 text output → s ≡ rehearsal input output
+  pub rehearsal-put : 24586 ≤ length output → (text : List ℕ) → text ≡ rehearsed input
+      → (s : Put) → s ≡ put 0 text output → s ≡ rehearsal input output
   unfolding rehearsal
   rehearsal-put h text is s done =
       let k = rehearsed-length input in

@@ -4,7 +4,7 @@
 -- Assumes nothing.
 use Prim.Native.Nat.{ℕ, suc, _+_, _-_, _*_, _≤_, _<_}
 use mathlib.Core.List.{List}
-use mathlib.Core.Path.{_≡_, refl, sym, _∙_, ap}
+use mathlib.Core.Path.{_≡_, sym, _∙_, ap}
 use native.Mathlib.Omega.{arith}
 use lib.ListN.{length, take, drop, drop-of-length-le}
 use Rattle.message.specs.declared.Plan.{Plan}
@@ -36,11 +36,12 @@ module _ (events : List ℕ) (count made : ℕ) (all : count ≡ eventCount even
         let within = made-within most h in
         let fuel : 8192 - made ≡ suc (8192 - (made + 1)) = omega arith in
         let next : 4 * (made + 1) ≡ 4 * made + 4 = omega arith in
+        let calls = calls-next events (8192 - (made + 1)) (4 * made) (within .0) in
         rw (lined, number, step, is, next)
         (sym (put-then at (line (numberOf (recordStep p t (take 4 (drop (4 * made) events)) .answer))) _ output)
         ∙ ap (λ (l : List ℕ). put at l output)
         (sym (text-next p t (take 4 (drop (4 * made) events)) (callsIn (8192 - (made + 1)) (drop (4 * made + 4) events)))
-        ∙ ap (textOf p t) (sym (ap (λ (f : ℕ). callsIn f (drop (4 * made) events)) fuel ∙ calls-next events (8192 - (made + 1)) (4 * made) (within .0))))
+        ∙ ap (textOf p t) (sym (ap (λ (f : ℕ). callsIn f (drop (4 * made) events)) fuel ∙ calls)))
         ∙ inv)
 
     pub run-end : count ≤ made → (ending : EndingType.Ending) → ending ≡ endingOf (t .states)

@@ -68,7 +68,8 @@ fn run_events(
 ) -> usize
     requires { ⌜ length (now events) ≤ 32768 ⌝ }
     ensures { λ r. ⌜ putOf r (now (output .exit)) ≡ put 0 (textOf plan
-        (tablesOf (now (states .entry)) (now (votes .entry)) (now (network .entry)) (now (inboxes .entry))) (callsIn 8192 (now (events .entry)))) (now (output .entry)) ⌝ }
+        (tablesOf (now (states .entry)) (now (votes .entry)) (now (network .entry)) (now (inboxes .entry)))
+        (callsIn 8192 (now (events .entry)))) (now (output .entry)) ⌝ }
 {
     let count = rehearsal_format::event_count(events);
     let mut at: usize = 0;
@@ -95,7 +96,8 @@ fn run(
     requires { ⌜ isPlan plan ≡ true ⌝ }
     requires { ⌜ (length (now states) ≡ 16) × (length (now votes) ≡ 336) × (length (now network) ≡ 6144) × (length (now inboxes) ≡ 24576) ⌝ }
     requires { ⌜ length (now events) ≤ 32768 ⌝ }
-    ensures { λ r. ⌜ putOf r (now (output .exit)) ≡ put 0 (textOf plan (freshTables 1024 plan) (callsIn 8192 (now (events .entry)))) (now (output .entry)) ⌝ }
+    ensures { λ r. ⌜ putOf r (now (output .exit)) ≡ put 0 (textOf plan (freshTables 1024 plan)
+        (callsIn 8192 (now (events .entry)))) (now (output .entry)) ⌝ }
 {
     let states_end = plan.rms as usize;
     let votes_end = 3 * (plan.rms as usize * plan.acceptors as usize);
@@ -119,7 +121,8 @@ fn run(
 fn run_fresh(plan: Plan, events: &[u8], output: &mut [u8]) -> usize
     requires { ⌜ isPlan plan ≡ true ⌝ }
     requires { ⌜ length (now events) ≤ 32768 ⌝ }
-    ensures { λ r. ⌜ putOf r (now (output .exit)) ≡ put 0 (textOf plan (freshTables 1024 plan) (callsIn 8192 (now (events .entry)))) (now (output .entry)) ⌝ }
+    ensures { λ r. ⌜ putOf r (now (output .exit)) ≡ put 0 (textOf plan (freshTables 1024 plan)
+        (callsIn 8192 (now (events .entry)))) (now (output .entry)) ⌝ }
 {
     let mut states = states_table();
     let mut votes = votes_table();

@@ -2,7 +2,7 @@
 use Prim.Native.Nat.{_≤_, _-_}
 use borrow.Author.Needs.{needs}
 use lib.ListN.{length}
-use mathlib.Core.Path.{_≡_, refl}
+use mathlib.Core.Path.{_≡_}
 use Rattle.console.proofs.read_input.Statement.{statement}
 use Rattle.console.proofs.read_input.Tie as tie
 

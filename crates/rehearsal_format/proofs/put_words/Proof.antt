@@ -10,7 +10,8 @@ use Rattle.rehearsal_format.proofs.put_words.Statement.{statement}
 use Rattle.rehearsal_format.proofs.put_words.Tie as tie
 
 abbrev Inv-loop : tie.InvT-loop
-Inv-loop output₀ at words end₀ i₀ output end i = (i ≤ length words) × (length output ≡ length output₀) × (put end (drop i words) output ≡ put at words output₀)
+Inv-loop output₀ at words end₀ i₀ output end i =
+    (i ≤ length words) × (length output ≡ length output₀) × (put end (drop i words) output ≡ put at words output₀)
 
 abbrev μ-loop : tie.MeasureT-loop
 μ-loop output₀ at words end₀ i₀ output end i = length words - i
@@ -44,7 +45,8 @@ loop-less c = search needs
 loop-again : tie.Need-loop-again Inv-loop μ-loop
 loop-again c =
     let at-loop = c .before .before .before in
-    (search needs, simp length-set (at-loop .loop .inv .1), words-step _ _ _ _ _ (at-loop .loop .inv .2) (c .before .before .loop-test .taken) (c .before .if1 .left))
+    let step = words-step _ _ _ _ _ (at-loop .loop .inv .2) (c .before .before .loop-test .taken) (c .before .if1 .left) in
+    (search needs, simp length-set (at-loop .loop .inv .1), step)
 
 same-length-2 : tie.Need-same-length-2 Inv-loop μ-loop
 same-length-2 c = search needs

@@ -42,7 +42,8 @@ put-then at (x ∷ a) b buffer = go (ltb at (length buffer)) refl (put-then (suc
     go true e rest = rw e rest
     go false e rest = rw e (sym (put-full at b buffer (ltb-false at (length buffer) e)))
 
-put-sets : (at : ℕ) (text buffer : List ℕ) → at + length text ≤ length buffer → put at text buffer ≡ putOf (at + length text) (sets buffer at text)
+put-sets : (at : ℕ) (text buffer : List ℕ) → at + length text ≤ length buffer
+    → put at text buffer ≡ putOf (at + length text) (sets buffer at text)
 unfolding put
 put-sets at [] buffer h = let e : at ≡ at + 0 = omega arith in ap (λ (n : ℕ). putOf n buffer) e
 put-sets at (x ∷ text) buffer h =

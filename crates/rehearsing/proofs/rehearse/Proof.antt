@@ -19,7 +19,8 @@ events-in-requires c κs = search needs
 run-fresh-requires : tie.Need-run-fresh-requires
 run-fresh-requires c κs =
     let at-told = c .before .before in
-    (given-plan _ _ (at-told .before .before .before .plan-in .ensures) _ (at-told .before .begun .given .1), events-within _ _ (c .before .events-in .ensures))
+    let at-plan = at-told .before .before .before in
+    (given-plan _ _ (at-plan .plan-in .ensures) _ (at-told .before .begun .given .1), events-within _ _ (c .before .events-in .ensures))
 
 enum-known-begun-2 : tie.Need-enum-known-begun-2
 enum-known-begun-2 c = search needs

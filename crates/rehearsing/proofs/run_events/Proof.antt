@@ -10,7 +10,6 @@ use borrow.Author.Needs.{needs}
 use denote.Ref.{now}
 use lib.ListN.{length, drop}
 use mathlib.Core.Path.{_≡_, refl}
-use native.Mathlib.Omega.{arith}
 use Rattle.rehearsing.proofs.run_events.Statement.{statement}
 use Rattle.rehearsing.proofs.run_events.Tie as tie
 
@@ -70,16 +69,16 @@ loop-again : tie.Need-loop-again Inv-loop μ-loop
 loop-again c =
     let at-line = c .before .before in
     let at-step = stepped at-line in
-    let at-loop = at-step .before .before .before .before .before .before .before in (
+    let at-event = at-step .before .before .before .before .before in
+    let at-loop = at-event .before .before in (
       search needs,
       search needs,
       search needs,
       search needs,
       search needs,
       search needs,
-      run-step _ _ _ (counted at-loop) _ _ _ _ _ (at-loop .loop .inv .6) (few at-loop) (at-step .before .before .before .before .before .before .loop-test .taken)
-          _ (at-step .before .before .before .before .before .event-at .ensures) _ (at-step .step .ensures)
-          _ (at-line .before .answer-number .ensures) _ (at-line .put-line .ensures),
+      run-step _ _ _ (counted at-loop) _ _ _ _ _ (at-loop .loop .inv .6) (few at-loop) (at-event .before .loop-test .taken)
+          _ (at-event .event-at .ensures) _ (at-step .step .ensures) _ (at-line .before .answer-number .ensures) _ (at-line .put-line .ensures),
     )
 
 ending-of-requires : tie.Need-ending-of-requires Inv-loop μ-loop

@@ -7,7 +7,7 @@
 --     text-length, rehearsed-length      a text has at most three bytes for a call and ten for the word
 -- Assumes nothing.
 use Prim.Native.Nat.{ℕ, zero, suc, _+_, _-_, _*_, _≤_, _<_}
-use mathlib.Core.Bool.{Bool, true, false, _&&_}
+use mathlib.Core.Bool.{Bool, true, _&&_}
 use mathlib.Core.List.{List, [], _∷_, _++_, append-assoc}
 use mathlib.Core.Path.{_≡_, refl, _∙_, ap}
 use native.Mathlib.Nat.{mul-div-right, mul-mod-right}
@@ -94,7 +94,8 @@ applies-below most end e k h = absurd (h tt)
 applies-below most (guard n t rest) e k (here h) = rw (h .0) (leb-true n most (both (leb n most) (isBelow most rest) e .0))
 applies-below most (guard n t rest) e k (below h) = applies-below most rest (both (leb n most) (isBelow most rest) e .1) k h
 
-lowest-below : {A : Type 0} (most : ℕ) (rows : Rows) → isBelow most rows ≡ true → (answer : Outcome A) → Lowest rows answer → numberOf answer ≤ most
+lowest-below : {A : Type 0} (most : ℕ) (rows : Rows) → isBelow most rows ≡ true
+    → (answer : Outcome A) → Lowest rows answer → numberOf answer ≤ most
 lowest-below most rows e (accepted a) lowest = omega arith
 lowest-below most rows e (refused k) lowest = applies-below most rows e k (lowest .refuses k .0 refl .0)
 
