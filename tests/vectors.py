@@ -1,14 +1,15 @@
 #!/usr/bin/env python3
 """The stored files of the programs: what each reads, and what it has to print.
 
-    python3 tests/vectors.py write      write crates/PROGRAM/stdin and crates/PROGRAM/stdout of every program
+    python3 tests/vectors.py write      write crates/PROGRAM/stdin and crates/PROGRAM/stdout of every program, and tests/rehearsed/
     python3 tests/vectors.py check      say whether they are what `write` would write; exit status 1 where one is not
     python3 tests/vectors.py list       print each line of crates/calls/stdout with its number and what the call is for, and how
                                         often each number is answered in crates/histories
 
 tests/cases_*.py choose the calls, and tests/calls.py says how they are written; tests/histories.py and tests/narration.py
-choose the histories of those two programs; the rehearsal has document 01's example. tests/model.py works out from document 01
-alone what each call answers and stores. The test command needs none of this: it compares a program's output with the file.
+choose the histories of those two programs; the rehearsal has document 01's example; tests/stories.py chooses the inputs below
+tests/rehearsed/. tests/model.py works out from document 01 alone what each call answers and stores. The test command needs none
+of this: it compares a program's output with the file.
 """
 
 import pathlib
@@ -21,11 +22,12 @@ import cases_rules
 import cases_tables
 import histories
 import narration
+import stories
 from calls import CALLS, READER, WRITER
 from model import ACCEPTOR, LEADER, RM, rehearse
 
 CASES = [cases_messages, cases_refusals, cases_tables, cases_rules, cases_random]
-CRATES = pathlib.Path(__file__).resolve().parent.parent / "crates"
+ROOT = pathlib.Path(__file__).resolve().parent.parent
 
 # The numbers that each call can answer.
 NUMBERS = {
@@ -55,6 +57,14 @@ def choose():
 
 
 def stored():
+    """The files: path, contents."""
+    for program, name, contents in of_programs():
+        yield pathlib.Path("crates", program, name), contents
+    for name, contents in stories.stored():
+        yield pathlib.Path("tests", "rehearsed", name), contents
+
+
+def of_programs():
     """The files of every program: program, name, contents."""
     yield "calls", "stdin", b"".join(text for _, _, _, text, _ in CALLS)
     yield "calls", "stdout", "".join(line + "\n" for _, _, _, _, line in CALLS).encode()
@@ -74,13 +84,18 @@ def main(command):
         for number, count in histories.counted().items():
             print("histories, %d: %d event calls" % (number, count))
         return 0
-    differs = 0
-    for program, name, contents in stored():
-        path = CRATES / program / name
+    differs, paths = 0, set()
+    for path, contents in stored():
+        paths.add(path)
         if command == "write":
-            path.write_bytes(contents)
-        elif not path.is_file() or path.read_bytes() != contents:
-            print("crates/%s/%s is not what tests/vectors.py writes" % (program, name))
+            (ROOT / path).parent.mkdir(exist_ok=True)
+            (ROOT / path).write_bytes(contents)
+        elif not (ROOT / path).is_file() or (ROOT / path).read_bytes() != contents:
+            print("%s is not what tests/vectors.py writes" % path)
+            differs = 1
+    for path in sorted((ROOT / "tests" / "rehearsed").glob("*")):
+        if path.relative_to(ROOT) not in paths:
+            print("%s is no file that tests/vectors.py writes" % path.relative_to(ROOT))
             differs = 1
     return differs
 

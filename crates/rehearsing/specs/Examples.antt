@@ -1,10 +1,11 @@
 -- Document 01's example ("The rehearsal") and others, by computation.
---     document-01       its input and its seven lines
---     Example, examples, examples-hold     cut and bad plans, no events, a cut event, the words, and the largest plan
+--     Example, examples, examples-hold     document 01's; cut and bad plans, no events, a cut event, the words, and the largest plan
+--     document-01                          its input and its seven lines
 -- Assumes nothing.
 use Prim.Native.Nat.{ℕ}
 use mathlib.Core.List.{List, [], _∷_, map}
-use mathlib.Core.Path.{_≡_, refl}
+use mathlib.Core.Path.{_≡_, refl, ap}
+use lib.ListN.{getD}
 use Rattle.message.specs.Outcome.{andThen, refuseIf}
 use Rattle.message.specs.Plan.{isPlan, isCount}
 use Rattle.message.specs.Form.{isValue, isVote, isInRange, bytesOf, bytesOf1b, messageLength, slotOf, mapLengths, mapLength, fieldsMessage, decode}
@@ -22,22 +23,29 @@ use Rattle.inbox.specs.Inbox.{any, is1b, is2a, is2b, higher, reportOf, highestR
 use Rattle.leader.specs.Leader.{owns, leaderJudged, receiptStore, receipt, phase1a, phase2aMessage, keepOwn, sendBoth, phase2a, sendOnly, decideSend, leaderKind, leaderVerdict, leaderStep}
 use Rattle.ending.specs.Ending.{areAll, endingOf}
 use Rattle.record.specs.Record.{inboxSize, areLengths, inboxOf, withInbox, areInboxes, recordJudged, roleStep, recordStep}
-use Rattle.rehearsing.specs.Rehearsal.{ascii, callsIn, freshTables, line, textOf, rehearsed}
+use Rattle.rehearsal_format.specs.Input.{planIn, eventsIn}
+use Rattle.rehearsal_format.specs.Text.{ascii, line}
+use Rattle.rehearsing.specs.Rehearsal.{callsIn, freshTables, textOf, printedFor, rehearsed}
 
 abbrev pub input-01 : List ℕ
 input-01 =
-    0x01 ∷ 0x01 ∷ 0x01 ∷ 0x00 ∷ 0x00 ∷ 0x00 ∷ 0x00 ∷ 0x03 ∷ 0x00 ∷ 0x00 ∷ 0x00 ∷ 0x04 ∷ 0x00 ∷ 0x00 ∷ 0x01 ∷ 0x07 ∷ 0x00 ∷ 0x00 ∷ 0x00 ∷ 0x02 ∷ 0x00 ∷ 0x00 ∷ 0x02 ∷ 0x01 ∷ 0x00 ∷ 0x00 ∷ 0x00 ∷ []
+    0x01 ∷ 0x01 ∷ 0x01
+    ∷ 0x00 ∷ 0x00 ∷ 0x00 ∷ 0x00
+    ∷ 0x03 ∷ 0x00 ∷ 0x00 ∷ 0x00
+    ∷ 0x04 ∷ 0x00 ∷ 0x00 ∷ 0x01
+    ∷ 0x07 ∷ 0x00 ∷ 0x00 ∷ 0x00
+    ∷ 0x02 ∷ 0x00 ∷ 0x00 ∷ 0x02
+    ∷ 0x01 ∷ 0x00 ∷ 0x00 ∷ 0x00
+    ∷ []
 
-pub document-01 : rehearsed input-01 ≡ ascii "0\n0\n0\n0\n0\n12\nCOMMITTED\n"
-unfolding andThen refuseIf isPlan isCount isValue isVote isInRange bytesOf bytesOf1b messageLength slotOf mapLengths mapLength fieldsMessage decode
-    readMessage all isTableLength slotsUpTo slots isZero readSlot readTable allUnused isOrdered isTable usedMessages messages sameBytes storeAt
-    sameMessage placeFrom placeIn messageAt sending slotNumber whoLimit areZero areArguments isEvent areStates rmJudged rmChoose rmReceiveDecision
-    rmReceive rmKind rmVerdict rmStep voteAt isVoteState areVotes acceptorJudged voteOf phase1b phase2b acceptorReceive acceptorVerdict
-    acceptorStep countAcceptors isMajority isQuorum any is1b is2a is2b higher reportOf highestReport proposal chosen isChosen2b decided forAll forSome
-    owns leaderJudged receiptStore receipt phase1a phase2aMessage keepOwn sendBoth phase2a sendOnly decideSend leaderKind leaderVerdict leaderStep
-    inboxSize areLengths inboxOf withInbox areInboxes recordJudged roleStep recordStep areAll endingOf
-    callsIn freshTables line textOf rehearsed
-document-01 = refl
+-- the largest plan: weight 15 prepares, acceptor 6 votes, leader 3 takes the vote
+abbrev input-largest : List ℕ
+input-largest =
+    0x10 ∷ 0x07 ∷ 0x04
+    ∷ 0x00 ∷ 0x0F ∷ 0x00 ∷ 0x00
+    ∷ 0x03 ∷ 0x06 ∷ 0x00 ∷ 0x00
+    ∷ 0x04 ∷ 0x03 ∷ 0x00 ∷ 0x01
+    ∷ []
 
 pub record Example : Type 0 where
   pub input : List ℕ
@@ -45,7 +53,8 @@ pub record Example : Type 0 where
 
 unfoldable pub examples : List Example
 examples =
-    record { input = []; prints = ascii "1\n" }
+    record { input = input-01; prints = ascii "0\n0\n0\n0\n0\n12\nCOMMITTED\n" }
+    ∷ record { input = []; prints = ascii "1\n" }
     ∷ record { input = 0x01 ∷ 0x01 ∷ []; prints = ascii "1\n" }
     ∷ record { input = 0x00 ∷ 0x01 ∷ 0x01 ∷ 0x00 ∷ 0x00 ∷ 0x00 ∷ 0x00 ∷ []; prints = ascii "1\n" }
     ∷ record { input = 0x11 ∷ 0x01 ∷ 0x01 ∷ []; prints = ascii "1\n" }
@@ -56,7 +65,7 @@ examples =
     ∷ record { input = 0x01 ∷ 0x01 ∷ 0x01 ∷ 0x00 ∷ 0x00 ∷ 0x00 ∷ 0x00 ∷ 0x00 ∷ []; prints = ascii "0\n7\nOPEN\n" }
     ∷ record { input = 0x01 ∷ 0x01 ∷ 0x01 ∷ 0x01 ∷ 0x00 ∷ 0x00 ∷ 0x00 ∷ []; prints = ascii "0\nABORTED\n" }
     ∷ record { input = 0x02 ∷ 0x01 ∷ 0x01 ∷ 0x01 ∷ 0x00 ∷ 0x00 ∷ 0x00 ∷ []; prints = ascii "0\nOPEN\n" }
-    ∷ record { input = 0x10 ∷ 0x07 ∷ 0x04 ∷ 0x00 ∷ 0x0F ∷ 0x00 ∷ 0x00 ∷ 0x03 ∷ 0x06 ∷ 0x00 ∷ 0x00 ∷ 0x04 ∷ 0x03 ∷ 0x00 ∷ 0x01 ∷ []; prints = ascii "0\n0\n0\nOPEN\n" }
+    ∷ record { input = input-largest; prints = ascii "0\n0\n0\nOPEN\n" }
     ∷ []
 
 pub examples-hold : map (λ (e : Example). rehearsed (e .input)) examples ≡ map (λ (e : Example). e .prints) examples
@@ -67,5 +76,10 @@ unfolding examples andThen refuseIf isPlan isCount isValue isVote isInRange byte
     acceptorStep countAcceptors isMajority isQuorum any is1b is2a is2b higher reportOf highestReport proposal chosen isChosen2b decided forAll forSome
     owns leaderJudged receiptStore receipt phase1a phase2aMessage keepOwn sendBoth phase2a sendOnly decideSend leaderKind leaderVerdict leaderStep
     inboxSize areLengths inboxOf withInbox areInboxes recordJudged roleStep recordStep areAll endingOf
-    callsIn freshTables line textOf rehearsed
+    planIn eventsIn callsIn freshTables line textOf printedFor rehearsed
 examples-hold = refl
+
+-- document 01's is the first of them
+pub document-01 : rehearsed input-01 ≡ ascii "0\n0\n0\n0\n0\n12\nCOMMITTED\n"
+unfolding examples
+document-01 = ap (λ (printed : List (List ℕ)). getD printed 0 []) examples-hold

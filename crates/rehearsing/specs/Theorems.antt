@@ -6,14 +6,12 @@
 --     rest-ignored               bytes after the last of these events play no part
 --     no-line-11                 no event call of a rehearsal answers 11
 -- Assumes nothing.
-use Prim.Native.Nat.{ℕ, zero, suc, _+_, _-_, _*_, _/_, _≤_, _<_, min}
+use Prim.Native.Nat.{ℕ, zero, suc, _+_, _*_, _/_, _≤_, _<_, min}
 use mathlib.Core.Bool.{true, false}
 use mathlib.Core.List.{List, [], _∷_, _++_, List·Memᴰ}
-use mathlib.Core.Path.{_≡_, refl, sym, _∙_, ap}
+use mathlib.Core.Path.{_≡_, refl}
 use native.Mathlib.Omega.{arith}
-use lib.ListN.{length, drop, length-append, replicate, length-drop, length-replicate, List·getD-append}
-use lib.Seq.{take-append-le, drop-append-le}
-use borrow.Author.Tests.{lt-ltb, le-ltb}
+use lib.ListN.{length, drop, replicate, length-drop, length-replicate}
 use Rattle.message.specs.declared.Plan.{Plan}
 use Rattle.message.specs.Outcome.{accepted, refused}
 use Rattle.message.specs.Plan.{isPlan}
@@ -21,25 +19,29 @@ use Rattle.slots.specs.Table.{isTableLength}
 use Rattle.ending.specs.Ending.{endingOf}
 use Rattle.record.specs.Record.{Tables, zeroed, recordOpen}
 use Rattle.safety.specs.Theorems.{Fresh, Call, answers, tablesAfter, never-11}
-use Rattle.rehearsing.specs.Rehearsal.{ascii, planOf, callsIn, freshTables, line, wordOf, linesOf, textOf, rehearsed}
+use Rattle.rehearsal_format.specs.Input.{planOf, eventsIn}
+use Rattle.rehearsal_format.specs.Input.Laws.{planIn-short, planIn-bad, planIn-good, planIn-more}
+use Rattle.rehearsal_format.specs.Text.{ascii, line, wordOf}
+use Rattle.rehearsal_format.specs.Theorems.{rest-ignored as events-rest}
+use Rattle.rehearsing.specs.Rehearsal.{callsIn, freshTables, linesOf, textOf, printedFor, rehearsed}
 use Rattle.rehearsing.specs.Rehearsal.Laws.{calls-take, opens}
 
 module _ (input : List ℕ) where
   pub plan-short : length input < 3 → rehearsed input ≡ ascii "1\n"
-  unfolding rehearsed line
-  plan-short h = rw (lt-ltb (length input) 3 h)
+  unfolding rehearsed printedFor line
+  plan-short h = rw (planIn-short input h)
 
   module _ (h : 3 ≤ length input) where
     pub plan-bad : isPlan (planOf input) ≡ false → rehearsed input ≡ ascii "1\n"
-    unfolding rehearsed line
-    plan-bad bad = rw (le-ltb (length input) 3 h, bad)
+    unfolding rehearsed printedFor line
+    plan-bad bad = rw (planIn-bad input h bad)
 
     pub printed : isPlan (planOf input) ≡ true
         → rehearsed input
         ≡ linesOf (answers (planOf input) (freshTables 1024 (planOf input)) (callsIn 8192 (drop 3 input)))
         ++ wordOf (endingOf (tablesAfter (planOf input) (freshTables 1024 (planOf input)) (callsIn 8192 (drop 3 input)) .states))
-    unfolding rehearsed textOf
-    printed good = rw (le-ltb (length input) 3 h, good)
+    unfolding rehearsed printedFor textOf eventsIn
+    printed good = rw (planIn-good input h good, calls-take 8192 (drop 3 input))
 
 zeros : (n : ℕ) → replicate n 0 ≡ zeroed (replicate n 0)
 unfolding zeroed
@@ -68,14 +70,4 @@ calls-count (suc k) (x ∷ xs) = let h = calls-count k (drop 3 xs) in let l = le
 
 pub rest-ignored : (input more : List ℕ) → length input ≡ 32771 → rehearsed (input ++ more) ≡ rehearsed input
 unfolding rehearsed
-rest-ignored input more size =
-    let long = length-append input more in
-    let calls : callsIn 8192 (drop 3 (input ++ more)) ≡ callsIn 8192 (drop 3 input) =
-    ap (callsIn 8192) (drop-append-le 3 input more (omega arith))
-    ∙ sym (calls-take 8192 (drop 3 input ++ more))
-    ∙ ap (callsIn 8192) (take-append-le 32768 (drop 3 input) more (rw (length-drop 3 input) (omega arith)))
-    ∙ calls-take 8192 (drop 3 input) in
-    let n = List·getD-append input more 0 0 (omega arith) in
-    let a = List·getD-append input more 0 1 (omega arith) in
-    let l = List·getD-append input more 0 2 (omega arith) in
-    rw (le-ltb (length (input ++ more)) 3 (omega arith), le-ltb (length input) 3 (omega arith), n, a, l, calls)
+rest-ignored input more size = rw (planIn-more input more (omega arith), events-rest input more size)

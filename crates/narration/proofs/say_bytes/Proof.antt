@@ -1,15 +1,40 @@
 -- `narration::say_bytes` is safe and ends: the loop counts the bytes up to the length. Assumes nothing.
 use Prim.Native.Nat.{_≤_, _-_}
-use lib.ListN.{length}
 use borrow.Author.Needs.{needs}
+use lib.ListN.{length}
+use mathlib.Core.Path.{_≡_}
 use Rattle.narration.proofs.say_bytes.Statement.{statement}
 use Rattle.narration.proofs.say_bytes.Tie as tie
 
 abbrev Inv-loop : tie.InvT-loop
-Inv-loop bytes i₀ i = i ≤ length bytes
+Inv-loop output₀ at bytes end₀ i₀ output end i = (i ≤ length bytes) × (length output ≡ length output₀)
 
 abbrev μ-loop : tie.MeasureT-loop
-μ-loop bytes i₀ i = length bytes - i
+μ-loop output₀ at bytes end₀ i₀ output end i = length bytes - i
+
+loop-holds : tie.Need-loop-holds Inv-loop μ-loop
+loop-holds c = search needs
+
+shared-slice-read-say-hex : tie.Need-shared-slice-read-say-hex Inv-loop μ-loop
+shared-slice-read-say-hex c = search needs
+
+say-hex-requires : tie.Need-say-hex-requires Inv-loop μ-loop
+say-hex-requires c κs = tt
+
+add-i : tie.Need-add-i Inv-loop μ-loop
+add-i c = search needs
+
+loop-less : tie.Need-loop-less Inv-loop μ-loop
+loop-less c = search needs
+
+loop-again : tie.Need-loop-again Inv-loop μ-loop
+loop-again c = search needs
+
+same-length : tie.Need-same-length Inv-loop μ-loop
+same-length c = search needs
+
+returns : tie.Need-returns Inv-loop μ-loop
+returns c = search needs
 
 pub say-bytes-spec : {M : Type 1} → statement M
 say-bytes-spec =
@@ -17,10 +42,11 @@ say-bytes-spec =
     (tie.spec
     Inv-loop
     μ-loop
-    (λ c. search needs)
-    (λ c. search needs)
-    (λ c κs. tt)
-    (λ c. search needs)
-    (λ c. search needs)
-    (λ c. search needs)
-    (λ c. search needs))
+    loop-holds
+    shared-slice-read-say-hex
+    say-hex-requires
+    add-i
+    loop-less
+    loop-again
+    same-length
+    returns)

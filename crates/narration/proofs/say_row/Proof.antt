@@ -1,15 +1,46 @@
 -- `narration::say_row` is safe and ends: the loop counts the bytes up to the length. Assumes nothing.
 use Prim.Native.Nat.{_≤_, _-_}
-use lib.ListN.{length}
 use borrow.Author.Needs.{needs}
+use lib.ListN.{length}
+use mathlib.Core.Path.{_≡_}
 use Rattle.narration.proofs.say_row.Statement.{statement}
 use Rattle.narration.proofs.say_row.Tie as tie
 
 abbrev Inv-loop : tie.InvT-loop
-Inv-loop states i₀ i = i ≤ length states
+Inv-loop output₀ at states end₀ i₀ output end i = (i ≤ length states) × (length output ≡ length output₀)
 
 abbrev μ-loop : tie.MeasureT-loop
-μ-loop states i₀ i = length states - i
+μ-loop output₀ at states end₀ i₀ output end i = length states - i
+
+slice-aggregate-put-words : tie.Need-slice-aggregate-put-words Inv-loop μ-loop
+slice-aggregate-put-words c = search needs
+
+put-words-requires : tie.Need-put-words-requires Inv-loop μ-loop
+put-words-requires c κs = tt
+
+loop-holds : tie.Need-loop-holds Inv-loop μ-loop
+loop-holds c = search needs
+
+shared-slice-read-say-state : tie.Need-shared-slice-read-say-state Inv-loop μ-loop
+shared-slice-read-say-state c = search needs
+
+say-state-requires : tie.Need-say-state-requires Inv-loop μ-loop
+say-state-requires c κs = tt
+
+add-i : tie.Need-add-i Inv-loop μ-loop
+add-i c = search needs
+
+loop-less : tie.Need-loop-less Inv-loop μ-loop
+loop-less c = search needs
+
+loop-again : tie.Need-loop-again Inv-loop μ-loop
+loop-again c = search needs
+
+same-length : tie.Need-same-length Inv-loop μ-loop
+same-length c = search needs
+
+returns : tie.Need-returns Inv-loop μ-loop
+returns c = search needs
 
 pub say-row-spec : {M : Type 1} → statement M
 say-row-spec =
@@ -17,12 +48,13 @@ say-row-spec =
     (tie.spec
     Inv-loop
     μ-loop
-    (λ c. search needs)
-    (λ c κs. tt)
-    (λ c. search needs)
-    (λ c. search needs)
-    (λ c κs. tt)
-    (λ c. search needs)
-    (λ c. search needs)
-    (λ c. search needs)
-    (λ c. search needs))
+    slice-aggregate-put-words
+    put-words-requires
+    loop-holds
+    shared-slice-read-say-state
+    say-state-requires
+    add-i
+    loop-less
+    loop-again
+    same-length
+    returns)

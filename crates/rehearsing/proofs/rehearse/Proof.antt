@@ -1,39 +1,68 @@
--- `rehearsing::rehearse` meets its contract: a buffer that is too short, a plan that is cut or bad, and the text of the events. Assumes nothing.
-use native.Mathlib.Omega.{arith}
-use lib.ListN.{length-take, length-drop}
+-- `rehearsing::rehearse` meets its contract: a buffer that is too short, the text of the events, and a plan that is refused. Assumes nothing.
+use Rattle.rehearsing.proofs.Rehearsing.{nothing-put, rehearsal-put, given-plan, events-within, plan-given, plan-refused}
 use borrow.Author.Needs.{needs}
-use Rattle.message.proofs.Guards.{passed, failed}
-use Rattle.rehearsing.proofs.Rehearsing.{nothing-said, rehearsal-said, short-plan, bad-plan, good-plan}
 use Rattle.rehearsing.proofs.rehearse.Statement.{statement}
 use Rattle.rehearsing.proofs.rehearse.Tie as tie
+
+returns : tie.Need-returns
+returns c = nothing-put _ _ (c .if1 .taken)
+
+plan-in-requires : tie.Need-plan-in-requires
+plan-in-requires c κs = search needs
+
+enum-known-begun : tie.Need-enum-known-begun
+enum-known-begun c = search needs
+
+events-in-requires : tie.Need-events-in-requires
+events-in-requires c κs = search needs
+
+run-fresh-requires : tie.Need-run-fresh-requires
+run-fresh-requires c κs =
+    let at-told = c .before .before in
+    let at-plan = at-told .before .before .before in
+    (given-plan _ _ (at-plan .plan-in .ensures) _ (at-told .before .begun .given .1), events-within _ _ (c .before .events-in .ensures))
+
+enum-known-begun-2 : tie.Need-enum-known-begun-2
+enum-known-begun-2 c = search needs
+
+put-line-requires : tie.Need-put-line-requires
+put-line-requires c κs = search needs
+
+same-length : tie.Need-same-length
+same-length c = search needs
+
+returns-2 : tie.Need-returns-2
+returns-2 c =
+    let at-run = c .before .before in
+    let at-events = at-run .before .before in
+    let at-plan = at-events .before .before .before .before in
+    rehearsal-put _ _ (at-plan .before .if1 .left)
+    _ (plan-given _ _ (at-plan .plan-in .ensures) _ (at-events .before .before .begun .given .1) _ (at-events .events-in .ensures))
+    _ (at-run .run-fresh .ensures)
+
+same-length-2 : tie.Need-same-length-2
+same-length-2 c = search needs
+
+returns-3 : tie.Need-returns-3
+returns-3 c =
+    let at-line = c .before .before in
+    let at-told = at-line .before .before in
+    let at-plan = at-told .before .before .before in
+    rehearsal-put _ _ (at-plan .before .if1 .left)
+    _ (plan-refused _ _ (at-plan .plan-in .ensures) _ (at-told .before .begun2 .given .1)) _ (at-line .put-line .ensures)
 
 pub rehearse-spec : {M : Type 1} → statement M
 rehearse-spec =
     tie.close
     (tie.spec
-    (λ c. nothing-said _ _ (c .if1 .taken))
-    (λ c κs. search needs)
-    (λ c. search needs)
-    (λ c. rehearsal-said _ _ (c .before .before .before .before .before .if1 .left) _ (short-plan _ (c .before .before .before .before .if2 .taken)) _ (c .before .before .put-line .ensures))
-    (λ c κs. tt)
-    (λ c κs. tt)
-    (λ c κs. tt)
-    (λ c κs. tt)
-    (λ c κs. search needs)
-    (λ c. search needs)
-    (λ c. rehearsal-said _ _ (c .before .before .before .before .before .before .before .before .before .before .if1 .left) _ (bad-plan _ (c .before .before .before .before .before .before .before .before .before .if2 .left) _ _ _ (c .before .before .before .before .before .before .before .before .byte-at .ensures) (c .before .before .before .before .before .before .before .byte-at2 .ensures) (c .before .before .before .before .before .before .byte-at3 .ensures) (failed (c .before .before .before .before .before .is-plan .ensures) (c .before .before .before .before .if3 .taken))) _ (c .before .before .put-line2 .ensures))
-    (λ c κs. tt)
-    (λ c. search needs)
-    (λ c. search needs)
-    (λ c. search needs)
-    (λ c κs. tt)
-    (λ c κs. tt)
-    (λ c κs. tt)
-    (λ c κs. tt)
-    (λ c. search needs)
-    (λ c. search needs)
-    (λ c. search needs)
-    (λ c. search needs)
-    (λ c κs. (passed (c .before .before .before .before .before .before .before .before .before .before .before .before .is-plan .ensures) (c .before .before .before .before .before .before .before .before .before .before .before .if3 .left), ((c .before .before .before .before .before .before .before .before .states-table .ensures, c .before .before .before .before .before .before .before .votes-table .ensures, c .before .before .before .before .before .before .network-table .ensures, c .before .before .before .before .before .inboxes-table .ensures), (simp (length-take, length-drop) (omega arith), c .before .before .before .before .before .before .before .before .before .before .before .before .before .before .before .before .before .if1 .left))))
-    (λ c. search needs)
-    (λ c. rehearsal-said _ _ (c .before .before .before .before .before .before .before .before .before .before .before .before .before .before .before .before .before .before .before .before .before .before .before .before .if1 .left) _ (good-plan _ (c .before .before .before .before .before .before .before .before .before .before .before .before .before .before .before .before .before .before .before .before .before .before .before .if2 .left) _ _ _ (c .before .before .before .before .before .before .before .before .before .before .before .before .before .before .before .before .before .before .before .before .before .before .byte-at .ensures) (c .before .before .before .before .before .before .before .before .before .before .before .before .before .before .before .before .before .before .before .before .before .byte-at2 .ensures) (c .before .before .before .before .before .before .before .before .before .before .before .before .before .before .before .before .before .before .before .before .byte-at3 .ensures) (passed (c .before .before .before .before .before .before .before .before .before .before .before .before .before .before .before .before .before .before .before .is-plan .ensures) (c .before .before .before .before .before .before .before .before .before .before .before .before .before .before .before .before .before .before .if3 .left)) _ (c .before .before .before .before .before .before .before .before .before .before .before .before .before .before .before .before .before .least .ensures)) _ (c .before .before .before .before .before .before .run .ensures)))
+    returns
+    plan-in-requires
+    enum-known-begun
+    events-in-requires
+    run-fresh-requires
+    enum-known-begun-2
+    put-line-requires
+    same-length
+    returns-2
+    same-length-2
+    returns-3)

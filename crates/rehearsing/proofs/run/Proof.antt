@@ -1,34 +1,119 @@
 -- `rehearsing::run` meets its contract: each part has the length that the plan asks for, so opening accepts. Assumes nothing.
-use native.Mathlib.Omega.{arith}
-use lib.ListN.{length-take}
-use borrow.Author.Needs.{needs}
-use Rattle.message.specs.Plan.Laws.{plan-bounds}
+use Prim.Native.Nat.{_*_, _≤_}
+use Rattle.message.specs.Plan.Laws.{PlanBounds, plan-bounds}
 use Rattle.rehearsing.proofs.Rehearsing.{votes-within, run-opened}
+use borrow.Author.Needs.{needs}
+use lib.ListN.{length-take}
+use native.Mathlib.Omega.{arith}
 use Rattle.rehearsing.proofs.run.Statement.{statement}
 use Rattle.rehearsing.proofs.run.Tie as tie
+
+-- where the plan's counts are known: the entry, and what it says of the counts
+abbrev entered : tie.After-struct-known3 → tie.Start
+entered c = c .before .before .before .before .before .before .before .before .before
+
+abbrev bounds : (c : tie.After-struct-known3) → PlanBounds (entered c .args .plan)
+bounds c = plan-bounds _ (entered c .pre .0)
+
+abbrev votes : (c : tie.After-struct-known3) → entered c .args .plan .rms * entered c .args .plan .acceptors ≤ 112
+votes c = votes-within _ (entered c .pre .0)
+
+-- from the events back to opening, and from opening to the plan's counts
+abbrev opened : tie.After-run-events → tie.After-open
+opened c = c .before .before .before .before .before .before .before .before .before .before .before
+
+abbrev parted : tie.After-open → tie.After-struct-known3
+parted c = c .before .before .before .before .before .before .before .before .before
+
+cast-states-end : tie.Need-cast-states-end
+cast-states-end c = search needs
+
+cast-votes-end : tie.Need-cast-votes-end
+cast-votes-end c = search needs
+
+cast-votes-end-2 : tie.Need-cast-votes-end-2
+cast-votes-end-2 c = search needs
+
+mul-votes-end : tie.Need-mul-votes-end
+mul-votes-end c = let v = votes c in omega arith
+
+mul-votes-end-2 : tie.Need-mul-votes-end-2
+mul-votes-end-2 c = let v = votes c in omega arith
+
+cast-inboxes-end : tie.Need-cast-inboxes-end
+cast-inboxes-end c = search needs
+
+mul-inboxes-end : tie.Need-mul-inboxes-end
+mul-inboxes-end c = search needs
+
+slice-relend-prefix-states-part : tie.Need-slice-relend-prefix-states-part
+slice-relend-prefix-states-part c = let most = bounds (c .before) .rms-most in omega arith
+
+slice-aggregate-states-part : tie.Need-slice-aggregate-states-part
+slice-aggregate-states-part c = let most = bounds (c .before .before) .rms-most in simp length-take (omega arith)
+
+slice-relend-prefix-votes-part : tie.Need-slice-relend-prefix-votes-part
+slice-relend-prefix-votes-part c = let v = votes (c .before .before) in omega arith
+
+slice-aggregate-votes-part : tie.Need-slice-aggregate-votes-part
+slice-aggregate-votes-part c = let v = votes (c .before .before .before) in simp length-take (omega arith)
+
+slice-relend-prefix-inboxes-part : tie.Need-slice-relend-prefix-inboxes-part
+slice-relend-prefix-inboxes-part c = let most = bounds (c .before .before .before) .leaders-most in omega arith
+
+slice-aggregate-inboxes-part : tie.Need-slice-aggregate-inboxes-part
+slice-aggregate-inboxes-part c = let most = bounds (c .before .before .before .before) .leaders-most in simp length-take (omega arith)
+
+open-requires : tie.Need-open-requires
+open-requires c κs = tt
+
+run-events-requires : tie.Need-run-events-requires
+run-events-requires c κs = search needs
+
+same-length : tie.Need-same-length
+same-length c = search needs
+
+same-length-2 : tie.Need-same-length-2
+same-length-2 c = search needs
+
+same-length-3 : tie.Need-same-length-3
+same-length-3 c = search needs
+
+same-length-4 : tie.Need-same-length-4
+same-length-4 c = search needs
+
+same-length-5 : tie.Need-same-length-5
+same-length-5 c = search needs
+
+returns : tie.Need-returns
+returns c =
+    let at-run = c .before .before .before .before .before .before .before .before .before .before in
+    let at-open = opened at-run in
+    let at-start = entered (parted at-open) in
+    run-opened _ (at-start .pre .0) _ _ _ _ (at-start .pre .1 .0) _ (at-open .«open» .ensures) _ _ _ (at-run .run-events .ensures)
 
 pub run-spec : {M : Type 1} → statement M
 run-spec =
     tie.close
     (tie.spec
-    (λ c. search needs)
-    (λ c. search needs)
-    (λ c. search needs)
-    (λ c. let v = votes-within _ (c .before .before .before .before .before .before .before .before .before .pre .0) in omega arith)
-    (λ c. let v = votes-within _ (c .before .before .before .before .before .before .before .before .before .pre .0) in omega arith)
-    (λ c. search needs)
-    (λ c. search needs)
-    (λ c. let b = plan-bounds _ (c .before .before .before .before .before .before .before .before .before .before .pre .0) .rms-most in omega arith)
-    (λ c. let b = plan-bounds _ (c .before .before .before .before .before .before .before .before .before .before .before .pre .0) .rms-most in simp length-take (omega arith))
-    (λ c. let v = votes-within _ (c .before .before .before .before .before .before .before .before .before .before .before .pre .0) in omega arith)
-    (λ c. let v = votes-within _ (c .before .before .before .before .before .before .before .before .before .before .before .before .pre .0) in simp length-take (omega arith))
-    (λ c. let b = plan-bounds _ (c .before .before .before .before .before .before .before .before .before .before .before .before .pre .0) .leaders-most in omega arith)
-    (λ c. let b = plan-bounds _ (c .before .before .before .before .before .before .before .before .before .before .before .before .before .pre .0) .leaders-most in simp length-take (omega arith))
-    (λ c κs. tt)
-    (λ c κs. search needs)
-    (λ c. search needs)
-    (λ c. search needs)
-    (λ c. search needs)
-    (λ c. search needs)
-    (λ c. search needs)
-    (λ c. run-opened _ (c .before .before .before .before .before .before .before .before .before .before .before .before .before .before .before .before .before .before .before .before .before .before .before .before .before .before .before .before .before .before .before .before .before .before .before .before .before .before .before .pre .0) _ _ _ _ (c .before .before .before .before .before .before .before .before .before .before .before .before .before .before .before .before .before .before .before .before .before .before .before .before .before .before .before .before .before .before .before .before .before .before .before .before .before .before .before .pre .1 .0 .0) (c .before .before .before .before .before .before .before .before .before .before .before .before .before .before .before .before .before .before .before .before .before .before .before .before .before .before .before .before .before .before .before .before .before .before .before .before .before .before .before .pre .1 .0 .1) (c .before .before .before .before .before .before .before .before .before .before .before .before .before .before .before .before .before .before .before .before .before .before .before .before .before .before .before .before .before .before .before .before .before .before .before .before .before .before .before .pre .1 .0 .2) (c .before .before .before .before .before .before .before .before .before .before .before .before .before .before .before .before .before .before .before .before .before .before .before .before .before .before .before .before .before .before .before .before .before .before .before .before .before .before .before .pre .1 .0 .3) _ (c .before .before .before .before .before .before .before .before .before .before .before .before .before .before .before .before .before .before .before .before .before .«open» .ensures) _ _ _ (c .before .before .before .before .before .before .before .before .before .before .run-events .ensures)))
+    cast-states-end
+    cast-votes-end
+    cast-votes-end-2
+    mul-votes-end
+    mul-votes-end-2
+    cast-inboxes-end
+    mul-inboxes-end
+    slice-relend-prefix-states-part
+    slice-aggregate-states-part
+    slice-relend-prefix-votes-part
+    slice-aggregate-votes-part
+    slice-relend-prefix-inboxes-part
+    slice-aggregate-inboxes-part
+    open-requires
+    run-events-requires
+    same-length
+    same-length-2
+    same-length-3
+    same-length-4
+    same-length-5
+    returns)

@@ -1,5 +1,4 @@
 -- Laws of the rehearsal's definitions.
---     said-then, said-within             one text after another, and a text within the buffer
 --     calls-next, calls-end              the calls from a place on
 --     calls-take, calls-length           bytes past the last event play no part; there are at most so many calls
 --     opens                              opening on tables of the right lengths gives the fresh ones
@@ -8,14 +7,14 @@
 --     text-length, rehearsed-length      a text has at most three bytes for a call and ten for the word
 -- Assumes nothing.
 use Prim.Native.Nat.{ℕ, zero, suc, _+_, _-_, _*_, _≤_, _<_}
-use mathlib.Core.Bool.{Bool, true, false, _&&_}
+use mathlib.Core.Bool.{Bool, true, _&&_}
 use mathlib.Core.List.{List, [], _∷_, _++_, append-assoc}
 use mathlib.Core.Path.{_≡_, refl, _∙_, ap}
 use native.Mathlib.Nat.{mul-div-right, mul-mod-right}
 use native.Mathlib.Omega.{arith}
-use lib.Dec.{leb, ltb}
+use lib.Dec.{leb}
 use lib.ListN.{length, take, drop, length-append}
-use lib.Seq.{sets, sets-eq, drop-cons, drop-drop, take-nil, take-take}
+use lib.Seq.{drop-cons, drop-drop, take-nil, take-take}
 use borrow.Author.Tests.{eq-eqb, leb-true}
 use Rattle.message.specs.declared.Plan.{Plan}
 use Rattle.message.specs.Outcome.{Outcome, accepted, refused, refuseIf, numberOf}
@@ -24,33 +23,16 @@ use Rattle.message.specs.Plan.{isPlan}
 use Rattle.message.specs.Plan.Laws.{plan-bounds}
 use Rattle.message.specs.Rows.{Rows, end, guard, here, below, Applies, Lowest}
 use Rattle.slots.specs.Table.{isTableLength}
-use Rattle.ending.specs.declared.Ending as EndingType
-use Rattle.ending.specs.declared.Ending.the-variants.{Committed, Aborted, Open}
 use Rattle.ending.specs.Ending.{endingOf}
 use Rattle.record.specs.Record.{Tables, inboxSize, areLengths, openJudged, zeroed, recordOpen, recordStep}
 use Rattle.conformance.specs.Record.{recordRows}
 use Rattle.conformance.specs.Theorems.{record-answers}
 use Rattle.safety.specs.Theorems.{Call, event, answers, tablesAfter}
-use Rattle.rehearsing.specs.Rehearsal.{planOf, callsIn, freshTables, line, wordOf, linesOf, textOf, rehearsed, said, saidOf}
-
--- one text after another
-sets-then : (a b o : List ℕ) (at : ℕ) → sets o at (a ++ b) ≡ sets (sets o at a) (at + length a) b
-sets-then [] b o at = let e : at + 0 ≡ at = omega arith in rw e
-sets-then (x ∷ a) b o at =
-    let e : at + suc (length a) ≡ suc at + length a = omega arith in
-    rw e (sets-then a b (sets o at (x ∷ [])) (suc at))
-
-pub said-then : (at : ℕ) (a b o : List ℕ) → said at (a ++ b) o ≡ said (said at a o .count) b (said at a o .output)
-unfolding said
-said-then at a b o =
-    let e : at + length (a ++ b) ≡ at + length a + length b = rw (length-append a b) (omega arith) in
-    rw (e, sets-then a b o at)
-
-pub said-within : (text o : List ℕ) → length text ≤ length o → said 0 text o ≡ saidOf (length text) (text ++ drop (length text) o)
-unfolding said
-said-within text o h =
-    let e : 0 + length text ≡ length text = omega arith in
-    rw (sets-eq text o 0 (omega arith), e)
+use Rattle.rehearsal_format.specs.Input.{planIn, eventsIn}
+use Rattle.rehearsal_format.specs.Input.Laws.{planIn-number}
+use Rattle.rehearsal_format.specs.Text.{line, wordOf}
+use Rattle.rehearsal_format.specs.Text.Laws.{line-length, word-length}
+use Rattle.rehearsing.specs.Rehearsal.{callsIn, freshTables, linesOf, textOf, printedFor, rehearsed}
 
 -- the calls from a place on
 module _ (bytes : List ℕ) (most at : ℕ) where
@@ -112,26 +94,14 @@ applies-below most end e k h = absurd (h tt)
 applies-below most (guard n t rest) e k (here h) = rw (h .0) (leb-true n most (both (leb n most) (isBelow most rest) e .0))
 applies-below most (guard n t rest) e k (below h) = applies-below most rest (both (leb n most) (isBelow most rest) e .1) k h
 
-lowest-below : {A : Type 0} (most : ℕ) (rows : Rows) → isBelow most rows ≡ true → (answer : Outcome A) → Lowest rows answer → numberOf answer ≤ most
+lowest-below : {A : Type 0} (most : ℕ) (rows : Rows) → isBelow most rows ≡ true
+    → (answer : Outcome A) → Lowest rows answer → numberOf answer ≤ most
 lowest-below most rows e (accepted a) lowest = omega arith
 lowest-below most rows e (refused k) lowest = applies-below most rows e k (lowest .refuses k .0 refl .0)
 
 pub number-below : (p : Plan) (t : Tables) (e : List ℕ) → numberOf (recordStep p t e .answer) ≤ 14
 unfolding isBelow
 number-below p t e = lowest-below 14 (recordRows p t e) refl _ (record-answers p t e)
-
-pub line-length : (k : ℕ) → length (line k) ≤ 3
-unfolding line
-line-length k = go (ltb k 10) refl
-  where
-    go : (b : Bool) → ltb k 10 ≡ b → length (line k) ≤ 3
-    go true e = rw e (omega arith)
-    go false e = rw e (omega arith)
-
-word-length : (e : EndingType.Ending) → length (wordOf e) ≤ 10
-word-length Committed = omega arith
-word-length Aborted = omega arith
-word-length Open = omega arith
 
 module _ (p : Plan) where
   pub text-next : (t : Tables) (e : List ℕ) (calls : List Call)
@@ -148,19 +118,19 @@ module _ (p : Plan) where
   pub text-length : (t : Tables) (calls : List Call) → length (textOf p t calls) ≤ 3 * length calls + 10
   text-length t [] = rw (text-end t) (word-length (endingOf (t .states)))
   text-length t (event e ∷ calls) =
-      let own = line-length (numberOf (recordStep p t e .answer)) in
+      let below = number-below p t e in
+      let own = line-length (numberOf (recordStep p t e .answer)) (omega arith) in
       let rest = text-length (recordStep p t e .tables) calls in
       let sum = length-append (line (numberOf (recordStep p t e .answer))) (textOf p (recordStep p t e .tables) calls) in
       rw (text-next t e calls, sum) (omega arith)
 
 pub rehearsed-length : (input : List ℕ) → length (rehearsed input) ≤ 24586
-unfolding rehearsed
-rehearsed-length input = go (ltb (length input) 3) refl (isPlan (planOf input)) refl
+unfolding rehearsed printedFor
+rehearsed-length input = go (planIn input) (eventsIn input) (planIn-number input)
   where
-    go : (short : Bool) → ltb (length input) 3 ≡ short → (plan : Bool) → isPlan (planOf input) ≡ plan → length (rehearsed input) ≤ 24586
-    go true s plan k = rw s (let h = line-length 1 in omega arith)
-    go false s false k = rw (s, k) (let h = line-length 1 in omega arith)
-    go false s true k =
-        let h = text-length (planOf input) (freshTables 1024 (planOf input)) (callsIn 8192 (drop 3 input)) in
-        let l = calls-length 8192 (drop 3 input) in
-        rw (s, k) (omega arith)
+    go : (begun : Outcome Plan) (events : List ℕ) → numberOf begun ≤ 1 → length (printedFor begun events) ≤ 24586
+    go (accepted p) events h =
+        let text = text-length p (freshTables 1024 p) (callsIn 8192 events) in
+        let calls = calls-length 8192 events in
+        omega arith
+    go (refused number) events h = let own = line-length number (omega arith) in omega arith

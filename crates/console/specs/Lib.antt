@@ -1,0 +1,3 @@
+-- What the programs do with the system.
+--     Console     what a read leaves
+pub mod Console
