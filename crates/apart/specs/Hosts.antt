@@ -15,6 +15,8 @@ pub mod Acceptor
 pub mod Leader
 pub mod Steps
 pub mod Lists
+pub mod Tests
+pub mod Moved
 use Prim.Native.Nat.{ℕ}
 use mathlib.Core.Bool.{true}
 use mathlib.Core.List.{List, [], _∷_, _++_, List·Memᴰ}

@@ -5,3 +5,6 @@
 pub mod Delivered
 pub mod Hosts
 pub mod Theorems
+pub mod Examples
+pub mod Needed
+pub mod Words

@@ -3,17 +3,20 @@
 --     safe-one, each-safe         one genuine happening, and each of a list
 --     grounded-after              what a list of genuine happenings leaves
 --     wire-kept                   what was sent stays sent: on any system
---     genuine-start, after-split, system-split     a list in two parts
+--     genuine-start, after-split, system-split, answers-split, genuine-split     a list in two parts
+--     each-of-each                what follows of each happening
 --     no-11                       no answer of a list is 11
 -- Assumes nothing.
 use Prim.Native.Nat.{ℕ}
 use mathlib.Core.List.{List, [], _∷_, _++_, List·Memᴰ, List·Memᴰ·head, List·Memᴰ·tail, List·Memᴰ·not-nil, Memᴰ·append-right}
+use mathlib.Core.Logic.{_↔_}
 use mathlib.Core.Path.{_≡_, refl, sym, _∙_, ap}
 use lib.ListN.{length}
 use Rattle.message.specs.declared.Plan.{Plan}
 use Rattle.message.specs.declared.Message as Wire
-use Rattle.message.specs.Outcome.{refused}
+use Rattle.message.specs.Outcome.{Outcome, refused}
 use Rattle.slots.specs.Table.{messages}
+use Rattle.change.specs.declared.Sent.{Sent}
 use Rattle.paxos_commit.specs.PaxosCommit.{Message, PCInit}
 use Rattle.paxos_commit.specs.PaxosCommit.Safety.Histories.{inv-init}
 use Rattle.record.specs.Record.{zeroed}
@@ -84,6 +87,25 @@ module _ (p : Plan) where
   pub system-split : (s : System) (hs : List Happening) (h : Happening) → systemAfter p s (hs ++ (h ∷ [])) ≡ made p (systemAfter p s hs) h .system
   system-split s [] h = refl
   system-split s (x ∷ hs) h = system-split (made p s x .system) hs h
+
+  pub answers-split : (s : System) (hs : List Happening) (h : Happening)
+      → answers p s (hs ++ (h ∷ [])) ≡ answers p s hs ++ (made p (systemAfter p s hs) h .answer ∷ [])
+  answers-split s [] h = refl
+  answers-split s (x ∷ hs) h = ap (λ (l : List (Outcome Sent)). made p s x .answer ∷ l) (answers-split (made p s x .system) hs h)
+
+  pub genuine-split : (s : System) (hs : List Happening) (h : Happening)
+      → AllGenuine p s (hs ++ (h ∷ [])) ↔ (AllGenuine p s hs × Genuine p (systemAfter p s hs) h)
+  genuine-split s [] h = (λ (one, none). (tt, one), λ (none, one). (one, tt))
+  genuine-split s (x ∷ hs) h =
+      let (apart, joined) = genuine-split (made p s x .system) hs h in
+      (λ (one, rest). let (before, last) = apart rest in ((one, before), last), λ ((one, before), last). (one, joined (before, last)))
+
+  -- what follows of each happening from what holds of it
+  pub each-of-each : (P Q : System → Made → Type 0) → ((s : System) (r : Made) → P s r → Q s r)
+      → (s : System) (hs : List Happening) → AfterEach p P s hs → AfterEach p Q s hs
+  each-of-each P Q next s [] each = tt
+  each-of-each P Q next s (h ∷ hs) each =
+      λ ok. let (one, rest) = each ok in (next s (made p s h) one, each-of-each P Q next (made p s h .system) hs rest)
 
   pub no-11 : (s : System) (hs : List Happening) → AfterEach p (Safe p) s hs → AllGenuine p s hs → List·Memᴰ (refused 11) (answers p s hs) → ⊥
   no-11 s [] each ok h = List·Memᴰ·not-nil h
