@@ -9,6 +9,8 @@
 --     hosts-agree, leaders-agree      no instance chooses two values, by what was sent or by what two leaders have received
 --     hosts-one-decision      Commit and Abort are never both sent
 --     hosts-chosen-2a, -2b    what a majority has voted for at a ballot is what every 2a and 2b there and at later ballots carries, ever after
+--     deliver-answers, deliver-keeps, deliver-sends     a delivery answers the lowest number that applies; a refused one changes no byte of N; an accepted one
+--                             has put the message that the bytes are into N, and answers the first slot where it stands
 -- In document 01's numbers: Words.antt. As behaviours of module PaxosCommit: Behaviour.antt. Assumes nothing.
 use Prim.Native.Nat.{ℕ, _≤_}
 use mathlib.Core.Bool.{Bool, true, false, false≢true}
@@ -17,19 +19,27 @@ use mathlib.Core.Path.{_≡_, refl, sym, _∙_, ap}
 use lib.ListN.{replicate}
 use Rattle.message.specs.declared.Plan.{Plan}
 use Rattle.message.specs.declared.Message as Wire
-use Rattle.message.specs.Outcome.{refused}
+use Rattle.message.specs.Outcome.{accepted, refused}
 use Rattle.message.specs.Plan.{isPlan}
 use Rattle.message.specs.Form.{isInRange, bytesOf}
 use Rattle.message.specs.Codec.{readMessage}
 use Rattle.message.specs.Codec.Laws.{readMessage-bytesOf}
+use Rattle.message.specs.Rows.{Lowest}
+use Rattle.message.specs.Rows.Laws.{isAscending, lowest-of-ruled}
 use Rattle.slots.specs.Table.{messages}
+use Rattle.change.specs.declared.Sent.{Sent}
 use Rattle.event.specs.Event.{isEvent}
 use Rattle.paxos_commit.specs.PaxosCommit.{Val, Message, phase2a, phase2b, Commit, Abort, Decided}
 use Rattle.paxos_commit.specs.PaxosCommit.Laws.{decided-kept}
 use Rattle.paxos_commit.specs.PaxosCommit.Safety.Agreement.{chosen-2a, chosen-2b, one-chosen, never-both}
 use Rattle.matching.specs.Reading.{isRM, isAcceptor, isMajoritySet, setOf}
+use Rattle.matching.specs.Call.{Sends}
 use Rattle.matching.specs.Theorems.{majorities-meet}
 use Rattle.safety.specs.Grounds.Zeros.{messages-zeros}
+use Rattle.deliver.specs.Deliver.{deliverStep}
+use Rattle.deliver.specs.Deliver.Laws as Deliver
+use Rattle.apart.specs.Delivery.{deliverRows}
+use Rattle.apart.specs.Delivery.Ruled.{deliver-ruled, sends-of-delivery}
 use Rattle.apart.specs.Hosts.{Role, leader, System, Happening, call, delivery, restart, only, NotForged, Genuine, Fresh, systemAfter, answers, AllGenuine, Safe, AfterEach}
 use Rattle.apart.specs.Hosts.Tied.{Grounded}
 use Rattle.apart.specs.Hosts.Lists.{grounded-fresh, each-safe, grounded-after, genuine-start, no-11}
@@ -112,3 +122,16 @@ module _ (p : Plan) where
 
     pub hosts-chosen-2b : (a : ℕ) → setOf (last .wire) (phase2b a i b w) → w ≡ v
     hosts-chosen-2b = chosen-2b (grounded-last .inv) (majorities-meet p .1) i c b v w (chosen .0) (chosen .1) votes later
+
+-- bytes that came to a host with this N
+module _ (p : Plan) (network bytes : List ℕ) where
+  pub deliver-answers : Lowest (deliverRows p network bytes) (deliverStep p network bytes .answer)
+  unfolding isAscending
+  deliver-answers = lowest-of-ruled _ refl _ (deliver-ruled p network bytes)
+
+  pub deliver-keeps : (k : ℕ) → deliverStep p network bytes .answer ≡ refused k → deliverStep p network bytes .network ≡ network
+  deliver-keeps = Deliver.deliver-keeps p network bytes
+
+  pub deliver-sends : (sent : Sent) → deliverStep p network bytes .answer ≡ accepted sent
+      → (m : Wire.Message) × (readMessage p bytes ≡ accepted m) × Sends p network m (deliverStep p network bytes .answer) (deliverStep p network bytes .network)
+  deliver-sends = sends-of-delivery p network bytes
