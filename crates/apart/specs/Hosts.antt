@@ -1,5 +1,5 @@
 -- Hosts that are apart: each resource manager (document 01: weight), each acceptor and each leader is a host of its own, with its role's table
--- and an N of its own, and makes its role's own call. Messages pass between the hosts: lost, doubled, late, in any order.
+-- and an N of its own, and makes its role's own call. Messages pass between the hosts: lost, doubled, late, in any order. All have one plan.
 --     Role, Host, System          the hosts by role and number, and every message that was sent
 --     Happening                   what may happen to a host: a call, a delivery, a restart, each with any bytes
 --     OwnNumber, NotForged, TableKept, Genuine     what is asked of a happening

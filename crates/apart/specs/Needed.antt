@@ -1,6 +1,7 @@
 -- Each hypothesis of `Genuine` is needed: for each a short list of happenings from fresh hosts, genuine but for one happening which fails that
 -- hypothesis alone, after which weight 0 is aborted and weight 1 committed. An order of two weights, one acceptor and one leader.
 --     Broken                        such a list: what came before the one happening was genuine, so is what comes after it, and the row is broken
+--     only-one-fails                in such a list that one happening is not genuine
 --     own-number-needed             the host of weight 1 makes an event with the number 0
 --     not-forged-needed             a Commit that nobody sent comes to weight 1
 --     network-not-forged-needed     weight 1 goes on with an N that has it
@@ -11,6 +12,7 @@ use Prim.Native.Nat.{ℕ}
 use mathlib.Core.Bool.{true}
 use mathlib.Core.List.{List, [], _∷_, _++_}
 use mathlib.Core.Path.{_≡_, refl, sym}
+use native.Mathlib.Omega.{arith}
 use lib.ListN.{replicate}
 use Rattle.message.specs.declared.Plan.{Plan}
 use Rattle.message.specs.Outcome.{andThen, refuseIf}
@@ -28,9 +30,12 @@ use Rattle.acceptor.specs.Acceptor.{voteAt, voteOf, phase1b, phase2b, acceptorJ
 use Rattle.quorum.specs.Quorum.{countAcceptors, isMajority, isQuorum}
 use Rattle.inbox.specs.Inbox.{any, is1b, is2a, is2b, higher, reportOf, highestReport, proposal, chosen, isChosen2b, decided, forAll, forSome}
 use Rattle.leader.specs.Leader.{owns, leaderJudged, receiptStore, receipt, phase1a, phase2aMessage, keepOwn, sendBoth, phase2a, sendOnly, decideSend, leaderKind, leaderVerdict, leaderStep}
+use Rattle.record.specs.Record.{zeroed}
 use Rattle.deliver.specs.Deliver.{deliverJudged, deliverStep}
-use Rattle.apart.specs.Hosts.{Role, rm, acceptor, leader, Host, System, Happening, call, delivery, restart, NotForged, TableKept, row, systemAfter, AllGenuine}
+use Rattle.apart.specs.Hosts.{Role, rm, acceptor, leader, Host, System, Happening, call, delivery, restart, NotForged, TableKept, Genuine, row, Fresh, systemAfter, AllGenuine}
+use Rattle.apart.specs.Hosts.Lists.{genuine-around}
 use Rattle.apart.specs.Hosts.Tests.{areSent, areGenuine, genuine-of-test, sents-of-test}
+use Rattle.apart.specs.Theorems.{hosts-consistent}
 
 abbrev pub order : Plan
 order = record { rms = 2; acceptors = 1; leaders = 1 }
@@ -117,6 +122,20 @@ afterLostVotes =
     ∷ delivery rm 0 (0x10 ∷ 2 ∷ [])
     ∷ act rm 0 2 0 1
     ∷ []
+
+zero-hosts : Fresh fresh
+unfolding zeroed
+zero-hosts = (each, refl)
+  where
+    each : (role : Role) (k : ℕ) → (zeros role .table ≡ zeroed (zeros role .table)) × (zeros role .network ≡ zeroed (zeros role .network))
+    each rm k = (refl, refl)
+    each acceptor k = (refl, refl)
+    each leader k = (refl, refl)
+
+pub only-one-fails : (before : List Happening) (one : Happening) (rest : List Happening) → Broken before one rest → Genuine order (end before) one → ⊥
+only-one-fails before one rest b genuine =
+    hosts-consistent order fresh zero-hosts (before ++ (one ∷ rest))
+    (genuine-around order fresh before one rest (b .genuine-before) genuine (b .genuine-rest)) 1 0 (omega arith) (omega arith) (b .committed) (b .aborted)
 
 -- `Broken` as tests that compute
 abbrev Computed : List Happening → Happening → List Happening → Type 0

@@ -1,7 +1,8 @@
 -- Demand 3 for hosts that are apart, each with an N of its own, and what else holds of them. Happenings are any, in any order, from fresh hosts; what
 -- is asked of each is `Genuine` alone: its own number, messages not forged, its own table not lost. Needed.antt shows that each of these is needed.
 --     hosts-safe              after each happening the three claims of demand 3 hold
---     hosts-never-11          so no answer of a list is 11
+--     hosts-consistent        so none is committed beside one aborted where a list ends
+--     hosts-never-11          and no answer of a list is 11
 --     wire-kept               what was sent stays sent
 --     sent-genuine, junk-genuine, not-event-genuine     the byte form of a sent message may come to any host at any time, and so may bytes that are no message;
 --                             what is no event may be called with
@@ -29,9 +30,10 @@ use Rattle.message.specs.Rows.Laws.{isAscending, lowest-of-ruled}
 use Rattle.slots.specs.Table.{messages}
 use Rattle.change.specs.declared.Sent.{Sent}
 use Rattle.event.specs.Event.{isEvent}
+use Rattle.tcommit.specs.RmState.{committed, aborted}
 use Rattle.paxos_commit.specs.PaxosCommit.{Val, Message, phase2a, phase2b, Commit, Abort, Decided}
 use Rattle.paxos_commit.specs.PaxosCommit.Laws.{decided-kept}
-use Rattle.paxos_commit.specs.PaxosCommit.Safety.Agreement.{chosen-2a, chosen-2b, one-chosen, never-both}
+use Rattle.paxos_commit.specs.PaxosCommit.Safety.Agreement.{consistent, chosen-2a, chosen-2b, one-chosen, never-both}
 use Rattle.matching.specs.Reading.{isRM, isAcceptor, isMajoritySet, setOf}
 use Rattle.matching.specs.Call.{Sends}
 use Rattle.matching.specs.Theorems.{majorities-meet}
@@ -40,7 +42,7 @@ use Rattle.deliver.specs.Deliver.{deliverStep}
 use Rattle.deliver.specs.Deliver.Laws as Deliver
 use Rattle.apart.specs.Delivery.{deliverRows}
 use Rattle.apart.specs.Delivery.Ruled.{deliver-ruled, sends-of-delivery}
-use Rattle.apart.specs.Hosts.{Role, leader, System, Happening, call, delivery, restart, only, NotForged, Genuine, Fresh, systemAfter, answers, AllGenuine, Safe, AfterEach}
+use Rattle.apart.specs.Hosts.{Role, leader, System, Happening, call, delivery, restart, only, NotForged, Genuine, row, Fresh, systemAfter, answers, AllGenuine, Safe, AfterEach}
 use Rattle.apart.specs.Hosts.Tied.{Grounded}
 use Rattle.apart.specs.Hosts.Lists.{grounded-fresh, each-safe, grounded-after, genuine-start, no-11}
 use Rattle.apart.specs.Hosts.Lists as Lists
@@ -88,6 +90,9 @@ module _ (p : Plan) where
 
       abbrev decided : (Message → Type 0) → ℕ → Val → Type 0
       decided = Decided (isRM p) (isAcceptor p) (isMajoritySet p)
+
+      pub hosts-consistent : (i j : ℕ) → isRM p i → isRM p j → row end i ≡ committed → row end j ≡ aborted → ⊥
+      hosts-consistent i j q k is gone = consistent (g .inv) (majorities-meet p .1) j i k q gone is
 
       pub hosts-agree : (i : ℕ) (v w : Val) → decided (setOf (end .wire)) i v → decided (setOf (end .wire)) i w → v ≡ w
       hosts-agree = one-chosen (g .inv) (majorities-meet p .1)

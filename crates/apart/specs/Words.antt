@@ -1,10 +1,10 @@
 -- What the definitions of Hosts.antt say, in the words and numbers of document 01: 0 working, 1 prepared, 2 committed, 3 aborted.
 --     role-step-means, row-means, fresh-means     a role's own call; byte i of weight i's W; zeros
---     own-tables              a happening leaves its host the answer's tables
---     other-hosts             and every other host its tables
---     call-sends, call-quiet, call-refused, delivery-sends, restart-sends     what it puts on the wire
+--     call-means, delivery-means, restart-means        what each happening answers, and leaves its host
+--     call-others, delivery-others, restart-others     every other host keeps its tables
+--     call-sends, call-quiet, call-refused, delivery-sends, restart-sends     what is put on the wire
 --     genuine-call, genuine-delivery, genuine-restart     what is asked
---     fresh-first, system-after, answers-after, after-each-split     each happening of a list finds what the one before left
+--     system-after, answers-after, genuine-after, after-each-split     each happening of a list finds what the one before left
 --     OneStep, SafeInWords    one step on the weights' bytes; the three claims of demand 3
 --     hosts-safe-words        so it is after each happening of every list
 --     hosts-safe-each         so it is of every genuine happening after every list of genuine ones

@@ -22,7 +22,7 @@ use Rattle.change.specs.Change.{Step}
 use Rattle.event.specs.Event.{kindOf, whoOf, highOf, lowOf, slotNumber}
 use Rattle.event.specs.Event.Laws.{event-parts}
 use Rattle.tcommit.specs.TCommit.{except}
-use Rattle.tcommit.specs.TCommit.Laws.{except-cases, except-here}
+use Rattle.tcommit.specs.TCommit.Laws.{except-cases}
 use Rattle.paxos_commit.specs.PaxosCommit.{Val, Message, AState, phase2a, Send, PCNext}
 use Rattle.paxos_commit.specs.PaxosCommit.Safety.Leader.{phase2a-of-part, decide-commit-of-part, decide-abort-of-part}
 use Rattle.leader.specs.Leader.{owns, leaderStep}
@@ -35,11 +35,8 @@ use Rattle.matching.specs.Leader.Took as Leader
 use Rattle.matching.specs.Theorems.{leader-answers, leader-instance, leader-receipt, leader-phase1a, leader-phase2a, leader-commit, leader-abort}
 use Rattle.safety.specs.Grounds.Kept.{Unowned, unowned-other}
 use Rattle.apart.specs.Hosts.{leader, Host, System, after, sentBy, row, published}
+use Rattle.apart.specs.Hosts.Moved.{except-other, new-host}
 use Rattle.apart.specs.Hosts.Tied.{Grounded, Claim, claim-sent, claim-sends, nets-sent, nets-quiet, tied-inbox, wire-old, wire-adds}
-
--- a host's table where another number is asked
-except-other : (f : ℕ → Host) (l k : ℕ) (h : Host) → (k ≡ l → ⊥) → except f l h k .table ≡ f k .table
-except-other f l k h n = except-cases (λ j u. (j ≡ l → ⊥) → u .table ≡ f j .table) f l h (λ d. absurd (d refl)) (λ j other d. refl) k n
 
 pub leader-not-11 : (p : Plan) (inbox network e : List ℕ) (rmState : ℕ → ℕ) (aState : ℕ → ℕ → AState)
     → leaderStep p inbox network e .answer ≡ refused 11 → ⊥
@@ -75,7 +72,11 @@ module _ (p : Plan) (s : System) (g : Grounded p s) (e : List ℕ) where
   Acts sent = PCNext (isRM p) (isAcceptor p) (isMajoritySet p) (published p s) (published p (next sent))
 
   new-table : (sent : List Wire.Message) → next sent .hosts leader l .table ≡ r .table
-  new-table sent = ap (λ (h : Host). h .table) (except-here (s .hosts leader) l (record { table = r .table; network = r .network }))
+  new-table sent = ap (λ (h : Host). h .table) (new-host (s .hosts) leader l (record { table = r .table; network = r .network }))
+
+  -- another leader's inbox
+  other-table : (sent : List Wire.Message) (k : ℕ) → (k ≡ l → ⊥) → next sent .hosts leader k .table ≡ s .hosts leader k .table
+  other-table sent k other = ap (λ (h : Host). h .table) (except-other (s .hosts leader) l (record { table = r .table; network = r .network }) k other)
 
   kept-tables : r .table ≡ inbox → (sent : List Wire.Message) (k : ℕ) → next sent .hosts leader k .table ≡ s .hosts leader k .table
   kept-tables same sent k =
@@ -114,7 +115,7 @@ module _ (p : Plan) (s : System) (g : Grounded p s) (e : List ℕ) where
           inr (refl, refl, λ x. (λ h. h, λ h. h)),
           tied-inbox p s (g .tied) (next []) (λ x h. h)
               (nets-quiet p s (g .tied) leader l r (λ x h. g .tied .networks leader l x (rw same at h)))
-              l m (rw (new-table []) stores) (λ k n. except-other (s .hosts leader) l k _ n) (m, g .tied .networks leader l m (member-at _ _ m slot), refl)
+              l m (rw (new-table []) stores) (other-table []) (m, g .tied .networks leader l m (member-at _ _ m slot), refl)
               (λ k b i v o h. inl h),
         )
 
@@ -153,7 +154,7 @@ module _ (p : Plan) (s : System) (g : Grounded p s) (e : List ℕ) where
             claim-sent p s (g .tied) leader l r m sent (
               inl acted,
               tied-inbox p s (g .tied) (next (m ∷ [])) (wire-old (s .wire) (m ∷ [])) (nets-sent p s (g .tied) leader l r m sent) l m (rw (new-table (m ∷ [])) stores)
-                  (λ k n. except-other (s .hosts leader) l k _ n) (wire-adds (s .wire) m _ .1 (inr refl))
+                  (other-table (m ∷ [])) (wire-adds (s .wire) m _ .1 (inr refl))
                   (λ k b i w o h. ⊎-elim inl (λ d. inr (d, owner k b i w o d)) (wire-adds (s .wire) m _ .0 h)),
             )
           where

@@ -3,7 +3,7 @@
 --     safe-one, each-safe         one genuine happening, and each of a list
 --     grounded-after              what a list of genuine happenings leaves
 --     wire-kept                   what was sent stays sent: on any system
---     genuine-start, after-split, system-split, answers-split, genuine-split     a list in two parts
+--     genuine-start, genuine-around, after-split, system-split, answers-split, genuine-split     a list in two parts
 --     each-of-each                what follows of each happening
 --     no-11                       no answer of a list is 11
 -- Assumes nothing.
@@ -77,6 +77,11 @@ module _ (p : Plan) where
   pub genuine-start : (s : System) (hs more : List Happening) → AllGenuine p s (hs ++ more) → AllGenuine p s hs
   genuine-start s [] more ok = tt
   genuine-start s (h ∷ hs) more (ok, rest) = (ok, genuine-start (made p s h .system) hs more rest)
+
+  pub genuine-around : (s : System) (hs : List Happening) (h : Happening) (more : List Happening) → AllGenuine p s hs → Genuine p (systemAfter p s hs) h
+      → AllGenuine p (systemAfter p s (hs ++ (h ∷ []))) more → AllGenuine p s (hs ++ (h ∷ more))
+  genuine-around s [] h more ok one rest = (one, rest)
+  genuine-around s (x ∷ hs) h more (first, ok) one rest = (first, genuine-around (made p s x .system) hs h more ok one rest)
 
   pub after-split : (P : System → Made → Type 0) (s : System) (hs : List Happening) (h : Happening) (more : List Happening)
       → AfterEach p P s (hs ++ (h ∷ more)) → AllGenuine p s hs → Genuine p (systemAfter p s hs) h

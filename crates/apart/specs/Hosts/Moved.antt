@@ -1,5 +1,6 @@
--- One host has new tables, and what was sent is put on the wire: the definitions taken apart, for Words.antt.
---     new-host, old-host                     the host, and every other
+-- One host has new tables, and what was sent is put on the wire: the definitions taken apart.
+--     except-other                           a function changed at one number, at another
+--     new-host, old-host                     the host that has new tables, and every other
 --     wire-slot, wire-quiet, wire-refused    the wire after a call, by its answer
 --     only-is                                the message of an outcome
 --     step-words                             a step of Transaction Commit in numbers
@@ -19,7 +20,7 @@ use Rattle.tcommit.specs.TCommit.{except, TCNext}
 use Rattle.tcommit.specs.TCommit.Laws.{except-cases, except-here}
 use Rattle.apart.specs.Hosts.{Role, rm, acceptor, leader, Host, System, putHost, only, sentBy, after}
 
-except-other : {A : Type 0} (f : ℕ → A) (k : ℕ) (v : A) (j : ℕ) → (j ≡ k → ⊥) → except f k v j ≡ f j
+pub except-other : {A : Type 0} (f : ℕ → A) (k : ℕ) (v : A) (j : ℕ) → (j ≡ k → ⊥) → except f k v j ≡ f j
 except-other f k v j other = except-cases (λ i u. (i ≡ k → ⊥) → u ≡ f i) f k v (λ n. absurd (n refl)) (λ i d n. refl) j other
 
 module _ (f : Role → ℕ → Host) where
