@@ -16,7 +16,7 @@
 use Prim.Native.Nat.{ℕ, _≤_}
 use mathlib.Core.Bool.{Bool, true, false, false≢true}
 use mathlib.Core.List.{List, [], _∷_, _++_, List·Memᴰ, List·Memᴰ·head, List·Memᴰ·tail, List·Memᴰ·not-nil}
-use mathlib.Core.Path.{_≡_, refl, sym, _∙_, ap}
+use mathlib.Core.Path.{_≡_, refl, sym, _∙_}
 use lib.ListN.{replicate}
 use Rattle.message.specs.declared.Plan.{Plan}
 use Rattle.message.specs.declared.Message as Wire
@@ -42,7 +42,7 @@ use Rattle.deliver.specs.Deliver.{deliverStep}
 use Rattle.deliver.specs.Deliver.Laws as Deliver
 use Rattle.apart.specs.Delivery.{deliverRows}
 use Rattle.apart.specs.Delivery.Ruled.{deliver-ruled, sends-of-delivery}
-use Rattle.apart.specs.Hosts.{Role, leader, System, Happening, call, delivery, restart, only, NotForged, Genuine, row, Fresh, systemAfter, answers, AllGenuine, Safe, AfterEach}
+use Rattle.apart.specs.Hosts.{Role, leader, System, Happening, call, delivery, restart, NotForged, Genuine, row, Fresh, systemAfter, answers, AllGenuine, Safe, AfterEach}
 use Rattle.apart.specs.Hosts.Tied.{Grounded}
 use Rattle.apart.specs.Hosts.Lists.{grounded-fresh, each-safe, grounded-after, genuine-start, no-11}
 use Rattle.apart.specs.Hosts.Lists as Lists

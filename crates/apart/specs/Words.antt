@@ -11,29 +11,24 @@
 -- Assumes nothing.
 use Prim.Native.Nat.{ℕ, _<_}
 use mathlib.Core.Bool.{true}
-use mathlib.Core.List.{List, [], _∷_, _++_, List·Memᴰ, List·Memᴰ·head, List·Memᴰ·tail, List·Memᴰ·not-nil}
+use mathlib.Core.List.{List, [], _∷_, _++_, List·Memᴰ, List·Memᴰ·head}
 use mathlib.Core.Logic.{_⊎_, inl, inr, ⊎-elim, _↔_}
 use mathlib.Core.Path.{_≡_, refl, sym, _∙_, ap}
 use lib.ListN.{length, getD, replicate}
 use Rattle.message.specs.declared.Plan.{Plan}
 use Rattle.message.specs.declared.Message as Wire
-use Rattle.message.specs.Outcome.{Outcome, accepted, refused}
-use Rattle.message.specs.Outcome.Laws.{accepted-inj, accepted-not-refused}
+use Rattle.message.specs.Outcome.{accepted, refused}
 use Rattle.message.specs.Codec.{readMessage}
 use Rattle.slots.specs.Table.{messages}
 use Rattle.slots.specs.Send.{messageAt}
-use Rattle.change.specs.declared.Sent.{Sent}
 use Rattle.change.specs.declared.Sent.the-variants.{Slot, Quiet}
 use Rattle.event.specs.Event.{whoOf, isEvent}
-use Rattle.tcommit.specs.TCommit.{except, TCNext}
-use Rattle.tcommit.specs.TCommit.Laws.{except-cases, except-here}
 use Rattle.rm.specs.Rm.{rmStep}
 use Rattle.acceptor.specs.Acceptor.{acceptorStep}
 use Rattle.leader.specs.Leader.{leaderStep}
 use Rattle.record.specs.Record.{zeroed}
-use Rattle.matching.specs.Reading.{isRM}
 use Rattle.deliver.specs.Deliver.{deliverStep}
-use Rattle.apart.specs.Hosts.{Role, rm, acceptor, leader, Host, System, Happening, call, delivery, restart, roleStep, only, Made, made, putHost, Genuine, row, Fresh, systemAfter, answers, AllGenuine, Safe, AfterEach}
+use Rattle.apart.specs.Hosts.{Role, rm, acceptor, leader, Host, System, Happening, call, delivery, restart, roleStep, Made, made, Genuine, row, Fresh, systemAfter, answers, AllGenuine, Safe, AfterEach}
 use Rattle.apart.specs.Hosts.Lists as Lists
 use Rattle.apart.specs.Hosts.Moved as Moved
 use Rattle.apart.specs.Theorems.{hosts-safe}

@@ -7,7 +7,7 @@ use Prim.Native.Nat.{ℕ, _≤_}
 use mathlib.Core.Bool.{Bool, true, false, _&&_, cond}
 use mathlib.Core.List.{List, [], _∷_}
 use mathlib.Core.Logic.{_⊎_, inl, inr, ⊎-elim, _↔_}
-use mathlib.Core.Path.{_≡_, refl, sym, _∙_, ap, subst, fun-ext}
+use mathlib.Core.Path.{_≡_, refl, _∙_, ap, subst, fun-ext}
 use lib.Dec.{eqb}
 use lib.ListN.{length}
 use borrow.Author.Tests.{eqb-true, eq-eqb}
@@ -18,7 +18,6 @@ use Rattle.message.specs.Outcome.{refused}
 use Rattle.message.specs.Rows.{here, Lowest}
 use Rattle.message.specs.Rows.Named.{row-applies, applies-row}
 use Rattle.slots.specs.Table.{messages}
-use Rattle.slots.specs.Send.{messageAt}
 use Rattle.change.specs.Change.{Step}
 use Rattle.event.specs.Event.{whoOf, slotNumber}
 use Rattle.tcommit.specs.TCommit.{except}

@@ -21,7 +21,6 @@ use Rattle.slots.specs.Send.{messageAt}
 use Rattle.change.specs.Change.{Step}
 use Rattle.event.specs.Event.{kindOf, whoOf, highOf, lowOf, slotNumber}
 use Rattle.event.specs.Event.Laws.{event-parts}
-use Rattle.tcommit.specs.TCommit.{except}
 use Rattle.tcommit.specs.TCommit.Laws.{except-cases}
 use Rattle.paxos_commit.specs.PaxosCommit.{Val, Message, AState, phase2a, Send, PCNext}
 use Rattle.paxos_commit.specs.PaxosCommit.Safety.Leader.{phase2a-of-part, decide-commit-of-part, decide-abort-of-part}

@@ -5,11 +5,10 @@
 -- Assumes nothing.
 use Prim.Native.Nat.{ℕ}
 use mathlib.Core.Bool.{true}
-use mathlib.Core.List.{List, [], _∷_, List·Memᴰ, List·Memᴰ·head}
+use mathlib.Core.List.{List, [], List·Memᴰ, List·Memᴰ·head}
 use mathlib.Core.Logic.{_⊎_, inl, inr, ⊎-elim}
 use mathlib.Core.Path.{_≡_, refl, sym, ap, subst}
 use Rattle.message.specs.declared.Plan.{Plan}
-use Rattle.message.specs.declared.Message as Wire
 use Rattle.message.specs.Outcome.{Outcome, accepted, refused}
 use Rattle.message.specs.Outcome.Laws.{accepted-not-refused}
 use Rattle.message.specs.Codec.{readMessage}
@@ -34,7 +33,7 @@ use Rattle.matching.specs.Theorems.{majorities-meet}
 use Rattle.safety.specs.Grounds.Stored.{member-split}
 use Rattle.deliver.specs.Deliver.{Delivery, deliverStep}
 use Rattle.deliver.specs.Deliver.Laws.{delivered as delivered-is, deliver-keeps, deliver-not-11}
-use Rattle.apart.specs.Hosts.{Role, rm, acceptor, leader, Host, System, Happening, call, delivery, restart, made, called, delivered, restarted, only, sentBy, OwnNumber, NotForged, TableKept, Genuine, row, published}
+use Rattle.apart.specs.Hosts.{Role, rm, acceptor, leader, System, Happening, call, delivery, restart, made, called, delivered, restarted, only, sentBy, OwnNumber, NotForged, TableKept, Genuine, row, published}
 use Rattle.apart.specs.Hosts.Tied.{Tied, Grounded, Allowed, Claim, claim-refused, claim-network}
 use Rattle.apart.specs.Hosts.Rm.{event-11, rm-claim, rm-not-11}
 use Rattle.apart.specs.Hosts.Acceptor.{acceptor-claim, acceptor-not-11}

@@ -1,7 +1,6 @@
 -- `host_record::paxos_commit_ending` meets its contract: each `return` is a row of `endingOutcome`, or the ending. Assumes nothing.
 use mathlib.Core.Bool.{not}
 use mathlib.Core.Path.{refl, _∙_, ap}
-use borrow.Author.Needs.{needs}
 use borrow.Author.Tests.{eq-eqb, ne-eqb}
 use Rattle.message.proofs.Guards.{told, halt, pass}
 use Rattle.host_record.specs.Code.{endingNumber, endingOutcome, endingCode}
