@@ -2,7 +2,7 @@
 -- and an N of its own, and makes its role's own call. Messages pass between the hosts: lost, doubled, late, in any order. All have one plan.
 --     Role, Host, System          the hosts by role and number, and every message that was sent
 --     Happening                   what may happen to a host: a call, a delivery, a restart, each with any bytes
---     OwnNumber, NotForged, TableKept, Genuine     what is asked of a happening
+--     OwnNumber, NotForged, TableKept, Genuine     what is asked of a happening: three hypotheses by name, and which of them where
 --     Made, made                  what it answers and leaves
 --     row, published              the weights' states, and the variables of module PaxosCommit
 --     Fresh                       the first system: zeros of any lengths
@@ -10,6 +10,7 @@
 --     Safe, AfterEach             the three claims of demand 3; a claim about each happening of a list
 -- The theorems are in Theorems.antt, Words.antt and Behaviour.antt; why they hold stands in Hosts/. Assumes nothing.
 pub mod Tied
+pub mod Restart
 pub mod Rm
 pub mod Acceptor
 pub mod Leader
@@ -17,16 +18,17 @@ pub mod Steps
 pub mod Lists
 pub mod Tests
 pub mod Moved
-use Prim.Native.Nat.{ℕ}
+use Prim.Native.Nat.{ℕ, _%_}
 use mathlib.Core.Bool.{true}
 use mathlib.Core.List.{List, [], _∷_, _++_, List·Memᴰ}
 use mathlib.Core.Logic.{_⊎_}
 use mathlib.Core.Path.{_≡_}
+use lib.ListN.{length, replicate}
 use Rattle.message.specs.declared.Plan.{Plan}
 use Rattle.message.specs.declared.Message as Wire
 use Rattle.message.specs.Outcome.{Outcome, accepted, refused}
 use Rattle.message.specs.Codec.{readMessage}
-use Rattle.slots.specs.Table.{messages}
+use Rattle.slots.specs.Table.{slotSize, messages}
 use Rattle.slots.specs.Send.{messageAt}
 use Rattle.change.specs.declared.Sent.{Sent}
 use Rattle.change.specs.declared.Sent.the-variants.{Slot, Quiet}
@@ -134,9 +136,13 @@ OwnNumber p k e = isEvent p e ≡ true → whoOf e ≡ k
 abbrev pub NotForged : System → List Wire.Message → Type 0
 NotForged s ms = (m : Wire.Message) → List·Memᴰ m ms → List·Memᴰ m (s .wire)
 
--- its own table not lost: the host goes on with its role's table as it was
+-- a table of whole slots with zeros after it
+abbrev pub Longer : List ℕ → List ℕ → Type 0
+Longer old table = (length old % slotSize ≡ 0) × ((n : ℕ) × (table ≡ old ++ replicate n 0))
+
+-- its own table not lost: the host goes on with its role's table as it was; a full inbox may be made longer
 abbrev pub TableKept : Host → List ℕ → Type 0
-TableKept h table = table ≡ h .table
+TableKept h table = (table ≡ h .table) ⊎ Longer (h .table) table
 
 -- all that is asked; bytes that read as no message are genuine, and N may be lost, older, of another length, or another host's
 abbrev pub Genuine : Plan → System → Happening → Type 0

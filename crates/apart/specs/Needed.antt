@@ -11,6 +11,7 @@
 use Prim.Native.Nat.{ℕ}
 use mathlib.Core.Bool.{true}
 use mathlib.Core.List.{List, [], _∷_, _++_}
+use mathlib.Core.Logic.{inl}
 use mathlib.Core.Path.{_≡_, refl, sym}
 use native.Mathlib.Omega.{arith}
 use lib.ListN.{replicate}
@@ -191,7 +192,7 @@ not-forged-needed = broken undecided forgedCommit (act rm 1 2 0 1 ∷ []) (compu
 -- its own table is kept
 pub network-not-forged-needed : Broken undecided (restart rm 1 (0 ∷ 1 ∷ []) forgedNetwork) (act rm 1 2 0 0 ∷ [])
     × TableKept (end undecided .hosts rm 1) (0 ∷ 1 ∷ [])
-network-not-forged-needed = (broken undecided (restart rm 1 (0 ∷ 1 ∷ []) forgedNetwork) (act rm 1 2 0 0 ∷ []) (computed .2), sym (computed .5))
+network-not-forged-needed = (broken undecided (restart rm 1 (0 ∷ 1 ∷ []) forgedNetwork) (act rm 1 2 0 0 ∷ []) (computed .2), inl (sym (computed .5)))
 
 -- its N is not forged
 pub states-kept-needed : Broken (act rm 0 0 0 0 ∷ []) (restart rm 0 (0 ∷ 0 ∷ []) keptNetwork) afterLostStates

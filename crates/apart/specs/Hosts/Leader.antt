@@ -84,7 +84,7 @@ module _ (p : Plan) (s : System) (g : Grounded p s) (e : List ℕ) where
   -- m was sent, and no inbox has to have it
   sends : (m : Wire.Message) → Sends p network m (r .answer) (r .network) → r .table ≡ inbox → Unowned p (messageOf m) → Acts (m ∷ [])
       → Claim p s leader l r (sentBy p r)
-  sends m sent same unowned = claim-sends p s (g .tied) leader l r m sent (kept-tables same (m ∷ [])) unowned
+  sends m sent same unowned = claim-sends p s (g .tied) leader l r m sent (λ k. ap (messages p) (kept-tables same (m ∷ []) k)) unowned
 
   rows : Lowest (leaderRows p inbox network e (stateOf p network (row s) aState)) (r .answer)
   rows = leader-answers p inbox network e (row s) aState

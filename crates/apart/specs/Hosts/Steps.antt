@@ -35,6 +35,7 @@ use Rattle.deliver.specs.Deliver.{Delivery, deliverStep}
 use Rattle.deliver.specs.Deliver.Laws.{delivered as delivered-is, deliver-keeps, deliver-not-11}
 use Rattle.apart.specs.Hosts.{Role, rm, acceptor, leader, System, Happening, call, delivery, restart, made, called, delivered, restarted, only, sentBy, OwnNumber, NotForged, TableKept, Genuine, row, published}
 use Rattle.apart.specs.Hosts.Tied.{Tied, Grounded, Allowed, Claim, claim-refused, claim-network}
+use Rattle.apart.specs.Hosts.Restart.{kept-reading}
 use Rattle.apart.specs.Hosts.Rm.{event-11, rm-claim, rm-not-11}
 use Rattle.apart.specs.Hosts.Acceptor.{acceptor-claim, acceptor-not-11}
 use Rattle.apart.specs.Hosts.Leader.{leader-claim, leader-not-11}
@@ -96,7 +97,7 @@ module _ (p : Plan) (s : System) (g : Grounded p s) where
 
     restart-claim : (table network′ : List ℕ) → TableKept (s .hosts role k) table → NotForged s (messages p network′)
         → Claim p s role k (restarted table network′) []
-    restart-claim table network′ same genuine = claim-network p s (g .tied) role k (restarted table network′) genuine same
+    restart-claim table network′ same genuine = claim-network p s (g .tied) role k (restarted table network′) genuine (kept-reading p (s .hosts role k) table same)
 
   pub one-claim : (h : Happening) → Genuine p s h → Allowed p s (made p s h .system) × Tied p (made p s h .system)
   one-claim (call role k e) named = call-claim role k e named

@@ -4,6 +4,7 @@
 -- Assumes nothing.
 use mathlib.Core.Bool.{Bool, true, false, not, _&&_, _||_, false≢true}
 use mathlib.Core.List.{List, [], _∷_, List·Memᴰ, List·Memᴰ·head, List·Memᴰ·tail, List·Memᴰ·not-nil}
+use mathlib.Core.Logic.{inl}
 use mathlib.Core.Path.{_≡_, refl}
 use lib.Dec.{eqb}
 use borrow.Author.Tests.{eqb-true}
@@ -59,7 +60,7 @@ module _ (p : Plan) where
   one-of-test s (delivery role k bytes) test = sents-of-test s (only (readMessage p bytes)) test
   one-of-test s (restart role k table network) test =
       let (same, sent) = both (sameBytes table (s .hosts role k .table)) (areSent p (s .wire) (messages p network)) test in
-      (sameBytes-true table (s .hosts role k .table) same, sents-of-test s (messages p network) sent)
+      (inl (sameBytes-true table (s .hosts role k .table) same), sents-of-test s (messages p network) sent)
 
   pub genuine-of-test : (s : System) (hs : List Happening) → areGenuine p s hs ≡ true → AllGenuine p s hs
   genuine-of-test s [] test = tt

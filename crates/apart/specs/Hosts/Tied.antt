@@ -6,9 +6,10 @@
 --     hosts-cases                 a claim about every host, when one has new tables
 --     Heard, heard-of             a table as a set of published messages
 --     tied-same, tied-inbox       a step that changes no inbox, and one by which one inbox gains a sent message
+--     Reading, readOf             all that is read from a role's table
 --     Claim                       what is shown of one happening
 --     claim-sent, nets-sent, claim-sends     a call that sent a message
---     nets-quiet, claim-network, claim-refused     nothing was sent; the role's table is kept; a refused call
+--     nets-quiet, claim-network, claim-refused     nothing was sent; the role's table reads as before; a refused call
 -- Assumes nothing.
 use Prim.Native.Nat.{ℕ}
 use mathlib.Core.Bool.{true}
@@ -21,7 +22,7 @@ use Rattle.message.specs.declared.Message as Wire
 use Rattle.slots.specs.Table.{messages}
 use Rattle.change.specs.Change.{Step, refusal}
 use Rattle.tcommit.specs.TCommit.Laws.{except-cases}
-use Rattle.paxos_commit.specs.PaxosCommit.{State, Val, Message, phase2a, PCNext, PCStep}
+use Rattle.paxos_commit.specs.PaxosCommit.{State, AState, Val, Message, phase2a, PCNext, PCStep}
 use Rattle.paxos_commit.specs.PaxosCommit.Safety.{Inv}
 use Rattle.leader.specs.Leader.{owns}
 use Rattle.matching.specs.Reading.{isRM, isAcceptor, isMajoritySet, messageOf, setOf, rmStateOf, aStateOf}
@@ -85,7 +86,7 @@ heard-of p wire table carried x (m, h, e) = (m, carried m h, e)
 
 module _ (p : Plan) (s : System) (g : Tied p s) (s′ : System) (kept : (x : Message) → setOf (s .wire) x → setOf (s′ .wire) x)
     (nets : (r : Role) (j : ℕ) → Carried p (s′ .wire) (s′ .hosts r j .network)) where
-  pub tied-same : ((l : ℕ) → s′ .hosts leader l .table ≡ s .hosts leader l .table)
+  pub tied-same : ((l : ℕ) → messages p (s′ .hosts leader l .table) ≡ messages p (s .hosts leader l .table))
       → ((l b i : ℕ) (v : Val) → owns p l b ≡ true → setOf (s′ .wire) (phase2a i b v) → setOf (s .wire) (phase2a i b v)) → Tied p s′
   tied-same same old =
       record {
@@ -113,6 +114,15 @@ module _ (p : Plan) (s : System) (g : Tied p s) (s′ : System) (kept : (x : Mes
     pub tied-inbox : Tied p s′
     tied-inbox = record { networks = nets; inboxes = λ k. heard k (ℕ-discrete k l); own-2a = λ k. owned k (ℕ-discrete k l) }
 
+-- all that is read from a role's table: states as from W, votes as from Q, messages as from an inbox
+pub record Reading : Type 0 where
+  pub states : ℕ → ℕ
+  pub votes : ℕ → ℕ → AState
+  pub held : List Wire.Message
+
+abbrev pub readOf : Plan → List ℕ → Reading
+readOf p table = record { states = rmStateOf table; votes = aStateOf p table; held = messages p table }
+
 abbrev pub Claim : Plan → System → Role → ℕ → Step → List Wire.Message → Type 0
 Claim p s role k r sent = Allowed p s (after s role k r sent) × Tied p (after s role k r sent)
 
@@ -132,7 +142,7 @@ module _ (p : Plan) (s : System) (g : Tied p s) (role : Role) (k : ℕ) (r : Ste
         (λ q j x h. List·Memᴰ·tail (g .networks q j x h))
 
     -- which no inbox has to have
-    pub claim-sends : ((l : ℕ) → after s role k r (m ∷ []) .hosts leader l .table ≡ s .hosts leader l .table) → Unowned p (messageOf m)
+    pub claim-sends : ((l : ℕ) → messages p (after s role k r (m ∷ []) .hosts leader l .table) ≡ messages p (s .hosts leader l .table)) → Unowned p (messageOf m)
         → PCNext (isRM p) (isAcceptor p) (isMajoritySet p) (published p s) (published p (after s role k r (m ∷ [])))
         → Claim p s role k r (sentBy p r)
     claim-sends same unowned next =
@@ -147,25 +157,26 @@ module _ (p : Plan) (s : System) (g : Tied p s) (role : Role) (k : ℕ) (r : Ste
     pub nets-quiet : (q : Role) (j : ℕ) → Carried p (s .wire) (after s role k r [] .hosts q j .network)
     nets-quiet = hosts-cases (λ q j h. Carried p (s .wire) (h .network)) (s .hosts) role k _ carried (g .networks)
 
-    -- the host keeps its role's table
-    pub claim-network : r .table ≡ s .hosts role k .table → Claim p s role k r []
+    -- the host's table reads as before
+    pub claim-network : readOf p (r .table) ≡ readOf p (s .hosts role k .table) → Claim p s role k r []
     claim-network is = (
-      subst (λ (t : Role → ℕ → List ℕ). PCStep (isRM p) (isAcceptor p) (isMajoritySet p) (published p s) (read t)) tables
+      subst (λ (f : Role → ℕ → Reading). PCStep (isRM p) (isAcceptor p) (isMajoritySet p) (published p s) (stateOf f)) readings
           (inr (refl, refl, λ x. (λ h. h, λ h. h))),
-      tied-same p s g _ (λ x h. h) nets-quiet (λ l. ap (λ (t : Role → ℕ → List ℕ). t leader l) (sym tables)) (λ l b i v o h. h),
+      tied-same p s g _ (λ x h. h) nets-quiet (λ l. ap (λ (f : Role → ℕ → Reading). f leader l .held) (sym readings)) (λ l b i v o h. h),
     )
       where
-        -- the published state by the hosts' tables
-        read : (Role → ℕ → List ℕ) → State
-        read t = record { rmState = λ i. rmStateOf (t rm i) i; aState = λ i a. aStateOf p (t acceptor a) i a; msgs = setOf (s .wire) }
+        -- the published state by the hosts' readings
+        stateOf : (Role → ℕ → Reading) → State
+        stateOf f = record { rmState = λ i. f rm i .states i; aState = λ i a. f acceptor a .votes i a; msgs = setOf (s .wire) }
 
-        tables : _≡_ {A = Role → ℕ → List ℕ} (λ q j. s .hosts q j .table) (λ q j. after s role k r [] .hosts q j .table)
-        tables =
+        readings : _≡_ {A = Role → ℕ → Reading} (λ q j. readOf p (s .hosts q j .table)) (λ q j. readOf p (after s role k r [] .hosts q j .table))
+        readings =
             fun-ext (λ (q : Role). fun-ext (λ (j : ℕ).
-            hosts-cases (λ o i h. s .hosts o i .table ≡ h .table) (s .hosts) role k (record { table = r .table; network = r .network }) (sym is) (λ o i. refl) q j))
+            hosts-cases (λ o i h. readOf p (s .hosts o i .table) ≡ readOf p (h .table)) (s .hosts) role k (record { table = r .table; network = r .network }) (sym is)
+            (λ o i. refl) q j))
 
   -- a refused call
   pub claim-refused : (number : ℕ) → r ≡ refusal (s .hosts role k .table) (s .hosts role k .network) number → Claim p s role k r (sentBy p r)
   claim-refused number is =
       subst (Claim p s role k r) (sym (ap (sentBy p) is))
-      (claim-network (λ m h. g .networks role k m (subst (λ (u : Step). List·Memᴰ m (messages p (u .network))) is h)) (ap (λ (u : Step). u .table) is))
+      (claim-network (λ m h. g .networks role k m (subst (λ (u : Step). List·Memᴰ m (messages p (u .network))) is h)) (ap (λ (u : Step). readOf p (u .table)) is))
