@@ -1,6 +1,6 @@
 -- A list of happenings from fresh hosts with tables of different sizes, all genuine, that ends committed: so the theorems are not proved of nothing.
 --     committing                      one weight, one acceptor, one leader; a 2a comes twice, junk comes, the leader loses its N
---     hosts-genuine, hosts-commit     each is genuine; what they answer, what was sent, and that the weight ends committed
+--     hosts-fresh, hosts-genuine, hosts-commit     the hosts are fresh; each happening is genuine; what they answer, what was sent, and that the weight ends committed
 -- Assumes nothing.
 use Prim.Native.Nat.{ℕ}
 use mathlib.Core.Bool.{true}
@@ -25,21 +25,27 @@ use Rattle.acceptor.specs.Acceptor.{voteAt, voteOf, phase1b, phase2b, acceptorJ
 use Rattle.quorum.specs.Quorum.{countAcceptors, isMajority, isQuorum}
 use Rattle.inbox.specs.Inbox.{any, is1b, is2a, is2b, higher, reportOf, highestReport, proposal, chosen, isChosen2b, decided, forAll, forSome}
 use Rattle.leader.specs.Leader.{owns, leaderJudged, receiptStore, receipt, phase1a, phase2aMessage, keepOwn, sendBoth, phase2a, sendOnly, decideSend, leaderKind, leaderVerdict, leaderStep}
-use Rattle.record.specs.Record.{zeroed}
 use Rattle.deliver.specs.Deliver.{deliverJudged, deliverStep}
-use Rattle.apart.specs.Hosts.{Role, rm, acceptor, leader, Host, System, Happening, call, delivery, restart, row, Fresh, systemAfter, answers, AllGenuine}
+use Rattle.apart.specs.Hosts.{Role, rm, acceptor, leader, System, Happening, call, delivery, restart, row, Fresh, zeroHosts, systemAfter, answers, AllGenuine}
+use Rattle.apart.specs.Hosts.Lists.{zeros-fresh}
 use Rattle.apart.specs.Hosts.Tests.{areGenuine, genuine-of-test}
 
 abbrev order : Plan
 order = record { rms = 1; acceptors = 1; leaders = 1 }
 
-abbrev zeros : Role → Host
-zeros rm = record { table = replicate 1 0; network = replicate 12 0 }
-zeros acceptor = record { table = replicate 3 0; network = replicate 18 0 }
-zeros leader = record { table = replicate 12 0; network = replicate 12 0 }
+-- W, Q and inbox, and each N
+abbrev tables : Role → ℕ → ℕ
+tables rm k = 1
+tables acceptor k = 3
+tables leader k = 12
+
+abbrev networks : Role → ℕ → ℕ
+networks rm k = 12
+networks acceptor k = 18
+networks leader k = 12
 
 abbrev pub fresh : System
-fresh = record { hosts = λ role k. zeros role; wire = [] }
+fresh = zeroHosts tables networks
 
 abbrev act : Role → ℕ → ℕ → ℕ → Happening
 act role kind high low = call role 0 (kind ∷ 0 ∷ high ∷ low ∷ [])
@@ -60,13 +66,7 @@ committing =
     ∷ []
 
 pub hosts-fresh : Fresh fresh
-unfolding zeroed
-hosts-fresh = (zero-hosts, refl)
-  where
-    zero-hosts : (role : Role) (k : ℕ) → (zeros role .table ≡ zeroed (zeros role .table)) × (zeros role .network ≡ zeroed (zeros role .network))
-    zero-hosts rm k = (refl, refl)
-    zero-hosts acceptor k = (refl, refl)
-    zero-hosts leader k = (refl, refl)
+hosts-fresh = zeros-fresh tables networks
 
 computed :
     (areGenuine order fresh committing ≡ true)

@@ -5,7 +5,7 @@
 --     OwnNumber, NotForged, TableKept, Genuine     what is asked of a happening: three hypotheses by name, and which of them where
 --     Made, made                  what it answers and leaves
 --     row, published              the weights' states, and the variables of module PaxosCommit
---     Fresh                       the first system: zeros of any lengths
+--     Fresh, zeroHosts            the first system: zeros of any lengths
 --     systemAfter, answers, AllGenuine     what a list of happenings leaves and answers, and what is asked of it
 --     Safe, AfterEach             the three claims of demand 3; a claim about each happening of a list
 -- The theorems are in Theorems.antt, Words.antt and Behaviour.antt; why they hold stands in Hosts/. Assumes nothing.
@@ -163,6 +163,11 @@ abbrev pub Fresh : System → Type 0
 Fresh s =
     ((role : Role) (k : ℕ) → (s .hosts role k .table ≡ zeroed (s .hosts role k .table)) × (s .hosts role k .network ≡ zeroed (s .hosts role k .network)))
     × (s .wire ≡ [])
+
+-- such a system, by the lengths of the roles' tables and of the N
+abbrev pub zeroHosts : (Role → ℕ → ℕ) → (Role → ℕ → ℕ) → System
+zeroHosts tables networks =
+    record { hosts = λ role k. record { table = replicate (tables role k) 0; network = replicate (networks role k) 0 }; wire = [] }
 
 -- the system as the last happening left it
 abbrev pub systemAfter : Plan → System → List Happening → System

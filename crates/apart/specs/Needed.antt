@@ -31,23 +31,27 @@ use Rattle.acceptor.specs.Acceptor.{voteAt, voteOf, phase1b, phase2b, acceptorJ
 use Rattle.quorum.specs.Quorum.{countAcceptors, isMajority, isQuorum}
 use Rattle.inbox.specs.Inbox.{any, is1b, is2a, is2b, higher, reportOf, highestReport, proposal, chosen, isChosen2b, decided, forAll, forSome}
 use Rattle.leader.specs.Leader.{owns, leaderJudged, receiptStore, receipt, phase1a, phase2aMessage, keepOwn, sendBoth, phase2a, sendOnly, decideSend, leaderKind, leaderVerdict, leaderStep}
-use Rattle.record.specs.Record.{zeroed}
 use Rattle.deliver.specs.Deliver.{deliverJudged, deliverStep}
-use Rattle.apart.specs.Hosts.{Role, rm, acceptor, leader, Host, System, Happening, call, delivery, restart, NotForged, TableKept, Genuine, row, Fresh, systemAfter, AllGenuine}
-use Rattle.apart.specs.Hosts.Lists.{genuine-around}
+use Rattle.apart.specs.Hosts.{Role, rm, acceptor, leader, System, Happening, call, delivery, restart, NotForged, TableKept, Genuine, row, zeroHosts, systemAfter, AllGenuine}
+use Rattle.apart.specs.Hosts.Lists.{zeros-fresh, genuine-around}
 use Rattle.apart.specs.Hosts.Tests.{areSent, areGenuine, genuine-of-test, sents-of-test}
 use Rattle.apart.specs.Theorems.{hosts-consistent}
 
 abbrev pub order : Plan
 order = record { rms = 2; acceptors = 1; leaders = 1 }
 
-abbrev zeros : Role → Host
-zeros rm = record { table = replicate 2 0; network = replicate 18 0 }
-zeros acceptor = record { table = replicate 6 0; network = replicate 36 0 }
-zeros leader = record { table = replicate 30 0; network = replicate 48 0 }
+abbrev tables : Role → ℕ → ℕ
+tables rm k = 2
+tables acceptor k = 6
+tables leader k = 30
+
+abbrev networks : Role → ℕ → ℕ
+networks rm k = 18
+networks acceptor k = 36
+networks leader k = 48
 
 abbrev pub fresh : System
-fresh = record { hosts = λ role k. zeros role; wire = [] }
+fresh = zeroHosts tables networks
 
 -- the system that a list leaves
 abbrev pub end : List Happening → System
@@ -124,18 +128,9 @@ afterLostVotes =
     ∷ act rm 0 2 0 1
     ∷ []
 
-zero-hosts : Fresh fresh
-unfolding zeroed
-zero-hosts = (each, refl)
-  where
-    each : (role : Role) (k : ℕ) → (zeros role .table ≡ zeroed (zeros role .table)) × (zeros role .network ≡ zeroed (zeros role .network))
-    each rm k = (refl, refl)
-    each acceptor k = (refl, refl)
-    each leader k = (refl, refl)
-
 pub only-one-fails : (before : List Happening) (one : Happening) (rest : List Happening) → Broken before one rest → Genuine order (end before) one → ⊥
 only-one-fails before one rest b genuine =
-    hosts-consistent order fresh zero-hosts (before ++ (one ∷ rest))
+    hosts-consistent order fresh (zeros-fresh tables networks) (before ++ (one ∷ rest))
     (genuine-around order fresh before one rest (b .genuine-before) genuine (b .genuine-rest)) 1 0 (omega arith) (omega arith) (b .committed) (b .aborted)
 
 -- `Broken` as tests that compute

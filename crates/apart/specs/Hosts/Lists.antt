@@ -1,4 +1,5 @@
 -- Lists of happenings.
+--     zeros-fresh                 zeros of any lengths are fresh
 --     initial, grounded-fresh     fresh hosts are PCInit of module PaxosCommit, and grounded
 --     safe-one, each-safe         one genuine happening, and each of a list
 --     grounded-after              what a list of genuine happenings leaves
@@ -11,7 +12,7 @@ use Prim.Native.Nat.{ℕ}
 use mathlib.Core.List.{List, [], _∷_, _++_, List·Memᴰ, List·Memᴰ·head, List·Memᴰ·tail, List·Memᴰ·not-nil, Memᴰ·append-right}
 use mathlib.Core.Logic.{_↔_}
 use mathlib.Core.Path.{_≡_, refl, sym, _∙_, ap}
-use lib.ListN.{length}
+use lib.ListN.{length, replicate, length-replicate}
 use Rattle.message.specs.declared.Plan.{Plan}
 use Rattle.message.specs.declared.Message as Wire
 use Rattle.message.specs.Outcome.{Outcome, refused}
@@ -22,9 +23,16 @@ use Rattle.paxos_commit.specs.PaxosCommit.Safety.Histories.{inv-init}
 use Rattle.record.specs.Record.{zeroed}
 use Rattle.matching.specs.Reading.{isRM, isAcceptor, isMajoritySet, setOf}
 use Rattle.safety.specs.Grounds.Zeros.{getD-zeros, messages-zeros, aStateOf-zeros}
-use Rattle.apart.specs.Hosts.{rm, acceptor, leader, System, Happening, call, delivery, restart, Made, made, called, sentBy, Genuine, published, Fresh, systemAfter, answers, AllGenuine, Safe, AfterEach}
+use Rattle.apart.specs.Hosts.{Role, rm, acceptor, leader, System, Happening, call, delivery, restart, Made, made, called, sentBy, Genuine, published, Fresh, zeroHosts, systemAfter, answers, AllGenuine, Safe, AfterEach}
 use Rattle.apart.specs.Hosts.Tied.{Grounded}
 use Rattle.apart.specs.Hosts.Steps.{grounded-one, path-one, agreed-one, not-11-one}
+
+pub zeros-fresh : (tables networks : Role → ℕ → ℕ) → Fresh (zeroHosts tables networks)
+unfolding zeroed
+zeros-fresh tables networks = (λ role k. (zeros (tables role k), zeros (networks role k)), refl)
+  where
+    zeros : (n : ℕ) → replicate n 0 ≡ zeroed (replicate n 0)
+    zeros n = ap (λ (k : ℕ). replicate k 0) (sym (length-replicate n 0))
 
 module _ (p : Plan) (s : System) where
   pub initial : Fresh s → PCInit (isRM p) (isAcceptor p) (isMajoritySet p) (published p s)
