@@ -1,4 +1,4 @@
--- Opening and the event call for other languages.
+-- Opening, the event call and the ending for other languages.
 --     Code       what they answer, as numbers, and the four tables
 --     Theorems   what the numbers stand for
 pub mod Code

@@ -1,14 +1,16 @@
-// Opening and the event call for other languages: numbers and byte slices in, one number out. Both are lent W (`states`), Q (`votes`),
-// N (`network`) and I (`inboxes`), of any content and length.
+// Opening, the event call and the ending for other languages: numbers and byte slices in, one number out. They are lent W (`states`), and the
+// first two Q (`votes`), N (`network`) and I (`inboxes`) too, of any content and length.
 //
-//     paxos_commit_open     the four tables zeroed
-//     paxos_commit_step     the event call of all nine kinds
+//     paxos_commit_open       the four tables zeroed
+//     paxos_commit_step       the event call of all nine kinds
+//     paxos_commit_ending     how the order stands: open, committed or aborted
 //
 // What the numbers mean stands in specs/Code.antt and in the crate host_code.
 ghost use mathlib.Core.Path.{_≡_};
 ghost use Rattle.record.specs.Record.{tablesOf, recordOpen, recordStep};
 ghost use Rattle.host_code.specs.Code.{planOf};
-ghost use Rattle.host_record.specs.Code.{hostOpening, hostOpeningOf, hostEvent, hostEventOf};
+ghost use Rattle.host_record.specs.Code.{hostOpening, hostOpeningOf, hostEvent, hostEventOf, endingNumber, endingOutcome, endingCode};
+use ending::Ending;
 use message::Plan;
 
 // Opens a record: 0, and every byte of the four tables 0. Refused: 1 or 2, and no byte changes.
@@ -56,4 +58,38 @@ pub extern "C" fn paxos_commit_step(
         leaders,
     };
     host_code::answer_code(record::step(plan, states, votes, network, inboxes, event))
+}
+
+// The number of how an order stands.
+fn ending_number(ending: Ending) -> u32
+    ensures { λ r. ⌜ r ≡ endingNumber ending ⌝ }
+{
+    match ending {
+        Ending::Open => 0,
+        Ending::Committed => 1,
+        Ending::Aborted => 2,
+    }
+}
+
+// How the order stands whose W is lent: 0 open, 1 committed (every weight is), 2 aborted (every weight is). Refused: 65536 and the number,
+// which is 1, 2 (W not n bytes) or 3 (a byte of W above 3).
+#[no_mangle]
+pub extern "C" fn paxos_commit_ending(rms: u8, acceptors: u8, leaders: u8, states: &[u8]) -> u32
+    ensures { λ r. ⌜ r ≡ endingCode (endingOutcome (planOf rms acceptors leaders) (now (states .entry))) ⌝ }
+{
+    let plan = Plan {
+        rms,
+        acceptors,
+        leaders,
+    };
+    if !message::is_plan(plan) {
+        return 65537;
+    }
+    if states.len() != rms as usize {
+        return 65538;
+    }
+    if !rm::are_states(states) {
+        return 65539;
+    }
+    ending_number(ending::ending_of(states))
 }

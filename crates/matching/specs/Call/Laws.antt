@@ -1,5 +1,5 @@
 -- The laws of calls.
---     messageAt-cases, member-at, at-member     the slot at a place, and the members of a list
+--     messageAt-cases, unused-past, member-at, at-member     the slot at a place, and the members of a list
 --     slot-in-range                             the message in a slot of a judged table is in range
 --     table-form                                a well-formed table is one that holds messages in range
 --     Stored, stored                            a table after an accepted store, all that is said of it
@@ -51,7 +51,7 @@ messageAt-cases (m ∷ ms) zero = inr (m, refl)
 messageAt-cases (m ∷ ms) (suc k) = messageAt-cases ms k
 
 -- row 8: the slot is past the last message
-unused-past : (ms : List Message) (k : ℕ) → messageAt ms k ≡ refused 8 → length ms ≤ k
+pub unused-past : (ms : List Message) (k : ℕ) → messageAt ms k ≡ refused 8 → length ms ≤ k
 unfolding messageAt
 unused-past [] k e = zero-le
 unused-past (m ∷ ms) zero e = absurd (accepted-not-refused (sym e))

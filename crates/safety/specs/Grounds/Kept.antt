@@ -1,5 +1,6 @@
 -- Each event keeps a record grounded.
 --     Unowned                   what N may gain while no inbox does: not a 2a at a ballot that a leader owns
+--     unowned-other, -zero      what is no 2a; a 2a at ballot 0
 --     grounded-proposes         Phase2a, by which N and the leader's inbox gain such a 2a
 --     grounded-acted            each case of `Acted`; an inbox that gains a message was not full
 -- Assumes nothing.
@@ -37,7 +38,7 @@ use Rattle.safety.specs.Grounds.{sentIn, seenBy, InvOf, Grounded}
 use Rattle.safety.specs.Grounds.Stored.{stores-length}
 use Rattle.safety.specs.Grounds.Inboxes.{grounded-same, grounded-inbox}
 
-abbrev isProposal : Message → Bool
+abbrev pub isProposal : Message → Bool
 isProposal (phase1a i b) = false
 isProposal (phase1b i m r v a) = false
 isProposal (phase2a i b v) = true
@@ -45,13 +46,13 @@ isProposal (phase2b a i b v) = false
 isProposal Commit = false
 isProposal Abort = false
 
-abbrev Unowned : Plan → Message → Type 0
+abbrev pub Unowned : Plan → Message → Type 0
 Unowned p m = (l b i : ℕ) (v : Val) → owns p l b ≡ true → phase2a i b v ≡ m → ⊥
 
-unowned-other : (p : Plan) (m : Message) → isProposal m ≡ false → Unowned p m
+pub unowned-other : (p : Plan) (m : Message) → isProposal m ≡ false → Unowned p m
 unowned-other p m h l b i v o e = false≢true (sym h ∙ ap isProposal (sym e))
 
-unowned-zero : (p : Plan) (j : ℕ) (w : Val) → Unowned p (phase2a j 0 w)
+pub unowned-zero : (p : Plan) (j : ℕ) (w : Val) → Unowned p (phase2a j 0 w)
 unowned-zero p j w l b i v o e = let d : b ≡ 0 = cc in let above = owns-above p b l o in omega arith
 
 same-inboxes : {t′ : Tables} {states votes network inboxes : List ℕ} → t′ ≡ tablesOf states votes network inboxes → t′ .inboxes ≡ inboxes

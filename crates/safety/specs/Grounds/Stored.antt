@@ -1,6 +1,7 @@
 -- What a table holds after a message was stored there (`Stores`: the message stood there, or was appended).
 --     stores-slot                                what stood in a slot stands there
---     stores-kept, stores-new, stores-split      its messages as a set: the old ones, and the stored one
+--     member-split                               its messages: the old ones, and the stored one
+--     stores-kept, stores-new, stores-split      likewise as sets
 --     stores-length                              where the message found room, the table keeps its length
 -- Assumes nothing.
 use Prim.Native.Nat.{ℕ, zero, suc, _*_, _%_, _≤_, _<_}
@@ -41,7 +42,7 @@ module _ (p : Plan) (table table′ : List ℕ) (m : Message) where
   member-new (inl (there, same)) = rw same there
   member-new (inr (absent, gained, form)) = rw gained (Memᴰ·append-right (messages p table) (List·Memᴰ·head refl))
 
-  member-split : Stores p table m table′ → (x : Message) → List·Memᴰ x (messages p table′) → List·Memᴰ x (messages p table) ⊎ (x ≡ m)
+  pub member-split : Stores p table m table′ → (x : Message) → List·Memᴰ x (messages p table′) → List·Memᴰ x (messages p table) ⊎ (x ≡ m)
   member-split (inl (there, same)) x h = inl (rw same at h)
   member-split (inr (absent, gained, form)) x h =
       ⊎-elim inl (λ k. inr (List·Memᴰ·eq-of-singleton k)) (List·Memᴰ·append-cases (messages p table) (rw gained at h))

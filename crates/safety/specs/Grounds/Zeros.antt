@@ -2,7 +2,7 @@
 --     member-zeros       nothing but 0
 --     getD-zeros         0 at every place
 --     zeros-zeroed       zeroed again, they are the same
---     messages-zeros     no message
+--     unused-zeros, messages-zeros     no message
 --     aStateOf-zeros     every acceptor as at first
 -- Assumes nothing.
 use Prim.Native.Nat.{ℕ, zero, suc}
@@ -40,7 +40,7 @@ zero-parts : (k : ℕ) (t : List ℕ) → isZero t ≡ true → (isZero (take k 
 unfolding isZero
 zero-parts k t z = both _ _ (sym (all-append _ (take k t) (drop k t)) ∙ ap (all (λ x. eqb x 0)) (take-append-drop k t) ∙ z)
 
-unused-zeros : (p : Plan) (n : ℕ) (t : List ℕ) → isZero t ≡ true → usedMessages (map (readSlot p) (slotsUpTo n t)) ≡ []
+pub unused-zeros : (p : Plan) (n : ℕ) (t : List ℕ) → isZero t ≡ true → usedMessages (map (readSlot p) (slotsUpTo n t)) ≡ []
 unfolding slotsUpTo usedMessages
 unused-zeros p zero t z = refl
 unused-zeros p (suc n) t z =

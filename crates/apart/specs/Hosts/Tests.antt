@@ -1,0 +1,69 @@
+-- Whether a list of happenings is genuine, as a test, for the examples.
+--     areSent, isGenuine, areGenuine     the tests
+--     sents-of-test, genuine-of-test     what they say
+-- Assumes nothing.
+use mathlib.Core.Bool.{Bool, true, false, not, _&&_, _||_, false≢true}
+use mathlib.Core.List.{List, [], _∷_, List·Memᴰ, List·Memᴰ·head, List·Memᴰ·tail, List·Memᴰ·not-nil}
+use mathlib.Core.Logic.{inl}
+use mathlib.Core.Path.{_≡_, refl}
+use lib.Dec.{eqb}
+use borrow.Author.Tests.{eqb-true}
+use Rattle.message.specs.declared.Plan.{Plan}
+use Rattle.message.specs.declared.Message as Wire
+use Rattle.message.specs.Outcome.Laws.{both}
+use Rattle.message.specs.Codec.{readMessage}
+use Rattle.slots.specs.Table.{sameBytes, messages}
+use Rattle.slots.specs.Table.Scan.Laws.{sameBytes-true}
+use Rattle.slots.specs.Send.{sameMessage}
+use Rattle.slots.specs.View.Laws.{sameMessage-true}
+use Rattle.event.specs.Event.{whoOf, isEvent}
+use Rattle.apart.specs.Hosts.{System, Happening, call, delivery, restart, made, only, NotForged, Genuine, AllGenuine}
+
+-- one of these is m
+abbrev pub isSent : Plan → List Wire.Message → Wire.Message → Bool
+isSent p [] m = false
+isSent p (x ∷ xs) m = sameMessage p m x || isSent p xs m
+
+abbrev pub areSent : Plan → List Wire.Message → List Wire.Message → Bool
+areSent p wire [] = true
+areSent p wire (m ∷ ms) = isSent p wire m && areSent p wire ms
+
+abbrev pub isGenuine : Plan → System → Happening → Bool
+isGenuine p s (call role k e) = not (isEvent p e) || eqb (whoOf e) k
+isGenuine p s (delivery role k bytes) = areSent p (s .wire) (only (readMessage p bytes))
+isGenuine p s (restart role k table network) = sameBytes table (s .hosts role k .table) && areSent p (s .wire) (messages p network)
+
+abbrev pub areGenuine : Plan → System → List Happening → Bool
+areGenuine p s [] = true
+areGenuine p s (h ∷ hs) = isGenuine p s h && areGenuine p (made p s h .system) hs
+
+module _ (p : Plan) where
+  sent-of-test : (wire : List Wire.Message) (m : Wire.Message) → isSent p wire m ≡ true → List·Memᴰ m wire
+  sent-of-test [] m e = absurd (false≢true e)
+  sent-of-test (x ∷ xs) m e = go (sent-of-test xs m) (sameMessage p m x) refl e
+    where
+      go : (isSent p xs m ≡ true → List·Memᴰ m xs) → (b : Bool) → sameMessage p m x ≡ b → (b || isSent p xs m) ≡ true → List·Memᴰ m (x ∷ xs)
+      go later true same h = List·Memᴰ·head (sameMessage-true p m x same)
+      go later false same h = List·Memᴰ·tail (later h)
+
+  pub sents-of-test : (s : System) (ms : List Wire.Message) → areSent p (s .wire) ms ≡ true → NotForged s ms
+  sents-of-test s [] e m h = absurd (List·Memᴰ·not-nil h)
+  sents-of-test s (x ∷ xs) e m (List·Memᴰ·head d) = rw d (sent-of-test (s .wire) x (both (isSent p (s .wire) x) (areSent p (s .wire) xs) e .0))
+  sents-of-test s (x ∷ xs) e m (List·Memᴰ·tail h) = sents-of-test s xs (both (isSent p (s .wire) x) (areSent p (s .wire) xs) e .1) m h
+
+  one-of-test : (s : System) (h : Happening) → isGenuine p s h ≡ true → Genuine p s h
+  one-of-test s (call role k e) test = λ event. go (isEvent p e) event test
+    where
+      go : (b : Bool) → b ≡ true → (not b || eqb (whoOf e) k) ≡ true → whoOf e ≡ k
+      go true is h = eqb-true (whoOf e) k h
+      go false is h = absurd (false≢true is)
+  one-of-test s (delivery role k bytes) test = sents-of-test s (only (readMessage p bytes)) test
+  one-of-test s (restart role k table network) test =
+      let (same, sent) = both (sameBytes table (s .hosts role k .table)) (areSent p (s .wire) (messages p network)) test in
+      (inl (sameBytes-true table (s .hosts role k .table) same), sents-of-test s (messages p network) sent)
+
+  pub genuine-of-test : (s : System) (hs : List Happening) → areGenuine p s hs ≡ true → AllGenuine p s hs
+  genuine-of-test s [] test = tt
+  genuine-of-test s (h ∷ hs) test =
+      let (one, rest) = both (isGenuine p s h) (areGenuine p (made p s h .system) hs) test in
+      (one-of-test s h one, genuine-of-test (made p s h .system) hs rest)

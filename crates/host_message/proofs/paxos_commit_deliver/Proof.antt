@@ -1,0 +1,14 @@
+-- `host_message::paxos_commit_deliver` meets its contract: the delivery, and the number of its answer. Assumes nothing.
+use borrow.Author.Needs.{needs}
+use Rattle.host_message.specs.Code.Laws.{delivery-coded}
+use Rattle.host_message.proofs.paxos_commit_deliver.Statement.{statement}
+use Rattle.host_message.proofs.paxos_commit_deliver.Tie as tie
+
+same-length : tie.Need-same-length
+same-length c = search needs
+
+returns : tie.Need-returns
+returns c = delivery-coded (c .before .before .before .deliver .ensures) (c .answer-code .ensures)
+
+pub paxos-commit-deliver-spec : {M : Type 1} → statement M
+paxos-commit-deliver-spec = tie.close (tie.spec (λ c κs. tt) (λ c κs. tt) same-length returns)
