@@ -103,7 +103,7 @@ module _ (p : Plan) (s : System) (g : Grounded p s) (e : List ℕ) where
 
     -- row 9: by a 1a or a 2a
     other : (m : Wire.Message) → InSlot p network e m → isTaken m ≡ false → ⊥
-    other m slot not = rows .accepts .0 taken 9 (applies-row (acceptorRows p votes network e (stateOf p votes network (row s))) 9 (here ((m, slot, not), tt)))
+    other m slot untaken = rows .accepts .0 taken 9 (applies-row (acceptorRows p votes network e (stateOf p votes network (row s))) 9 (here ((m, slot, untaken), tt)))
 
     pub acceptor-claim : Claim p s acceptor a r (sentBy p r)
     acceptor-claim = ⊎-elim (λ none. absurd (used (unused-past (messages p network) (slotNumber e) none))) (λ (m, slot). go m slot)
