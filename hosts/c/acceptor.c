@@ -35,7 +35,8 @@ static uint8_t take(struct tables *tables, uint8_t who, const uint8_t *bytes, si
     if (slot >= PAXOS_COMMIT_ANSWER_REFUSED)
         return paxos_commit_refusal_of(slot);
 
-    const uint8_t event[4] = {PAXOS_COMMIT_KIND_VOTE, who, (uint8_t)(slot >> 8), (uint8_t)slot};
+    uint8_t event[PAXOS_COMMIT_EVENT];
+    paxos_commit_event_at_slot(PAXOS_COMMIT_KIND_VOTE, who, slot, event);
     uint32_t answer = paxos_commit_acceptor_step(RMS, ACCEPTORS, LEADERS, next.votes, sizeof next.votes, next.network,
                                                  sizeof next.network, event, sizeof event);
     if (answer >= PAXOS_COMMIT_ANSWER_REFUSED)
@@ -67,7 +68,7 @@ int main(int argc, char **argv) {
             len++;
         refusal = take(&tables, (uint8_t)who, bytes, len);
         if (refusal != 0)
-            printf("refused: %u\n", refusal);
+            printf("refused: %s\n", paxos_commit_refusal_name(refusal));
         if (refusal != 0 && refusal < PAXOS_COMMIT_REFUSAL_WRONG_ROLE)
             return 1; /* damage, or a fault of this host */
     }

@@ -1,8 +1,9 @@
 /*
  * All calls in one program: opens a record, runs document 01's example on it, feeds it junk, then runs an order with a
- * host for each role, which share nothing but the messages that they send each other; at last the same order on tables
- * that are too small, where most calls are refused. It prints what each call answered; hosts/test compares that with
- * host.stdout. docs/HOSTS.md has the command that builds it.
+ * host for each role, which share nothing but the messages that they send each other; then the same order on tables
+ * that are too small, where most calls are refused; at last the writer, deliveries, and events and refusals by name. It
+ * prints what each call answered; hosts/test compares that with host.stdout. docs/HOSTS.md has the command that builds
+ * it.
  */
 #include "paxos_commit.h"
 
@@ -20,6 +21,15 @@ static void say(const char *what, uint32_t answer) {
         printf("%s: accepted, sent in slot %u\n", what, (unsigned)answer);
     else
         printf("%s: refused, %u\n", what, (unsigned)paxos_commit_refusal_of(answer));
+}
+
+/* How an order stands. */
+static void say_ending(uint32_t ending) {
+    static const char *const words[3] = {"open", "committed", "aborted"};
+    if (ending < PAXOS_COMMIT_ANSWER_REFUSED)
+        printf("the order is %s\n", words[ending]);
+    else
+        printf("the order: refused, %u\n", (unsigned)paxos_commit_refusal_of(ending));
 }
 
 static void show(const char *name, const uint8_t *bytes, size_t len) {
@@ -51,8 +61,10 @@ static void rehearsal(void) {
     say("step before opening", step(events[0], 4));
     printf("open: %u\n", paxos_commit_open(1, 1, 1, states, sizeof states, votes, sizeof votes, network, sizeof network,
                                            inboxes, sizeof inboxes));
+    say_ending(paxos_commit_ending(1, 1, 1, states, sizeof states));
     for (size_t i = 0; i < 6; i++)
         say(words[i], step(events[i], 4));
+    say_ending(paxos_commit_ending(1, 1, 1, states, sizeof states));
     show("W", states, sizeof states);
     show("Q", votes, sizeof votes);
     show("N", network, 18);
@@ -116,6 +128,10 @@ static void junk(void) {
     network[17] ^= 1;
     states[0] = 4;
     say("a state above 3", step(prepare, 4));
+    say_ending(paxos_commit_ending(1, 1, 1, states, sizeof states));
+    states[0] = PAXOS_COMMIT_STATE_ABORTED;
+    say_ending(paxos_commit_ending(1, 1, 1, states, sizeof states));
+    say_ending(paxos_commit_ending(1, 1, 1, states, 0));
     states[0] = PAXOS_COMMIT_STATE_COMMITTED;
     say("no weights in the plan", paxos_commit_step(0, 1, 1, states, sizeof states, votes, sizeof votes, network,
                                                     sizeof network, inboxes, sizeof inboxes, prepare, 4));
@@ -159,11 +175,10 @@ static struct host new_host(const char *name, uint8_t who, role_step *step, size
 }
 
 /* An event of the host; what its step sent, which is none where it is quiet or refused. */
-static struct message act(struct host *host, const char *what, uint8_t kind, uint8_t high, uint8_t low) {
+static struct message call(struct host *host, const char *what, const uint8_t event[PAXOS_COMMIT_EVENT]) {
     struct message sent = {{0}, 0};
-    const uint8_t event[4] = {kind, host->who, high, low};
     uint32_t answer = host->step(RMS, ACCEPTORS, LEADERS, host->table, host->table_len, host->network,
-                                 host->network_len, event, sizeof event);
+                                 host->network_len, event, PAXOS_COMMIT_EVENT);
     printf("%s %u ", host->name, host->who);
     say(what, answer);
     /* Here the role's table and N go to disk, before what was sent leaves. */
@@ -171,9 +186,17 @@ static struct message act(struct host *host, const char *what, uint8_t kind, uin
     return sent;
 }
 
+/* The host acts of its own accord. */
+static struct message act(struct host *host, const char *what, uint8_t kind) {
+    uint8_t event[PAXOS_COMMIT_EVENT];
+    paxos_commit_event(kind, host->who, event);
+    return call(host, what, event);
+}
+
 /* What came from the wire: into the host's N, and then an event with its slot. */
 static struct message take(struct host *host, const char *what, uint8_t kind, const struct message *message) {
     static const struct message none = {{0}, 0};
+    uint8_t event[PAXOS_COMMIT_EVENT];
     uint32_t slot;
     if (message->len == 0)
         return none;
@@ -184,7 +207,8 @@ static struct message take(struct host *host, const char *what, uint8_t kind, co
         say("gets a message", slot);
         return none;
     }
-    return act(host, what, kind, (uint8_t)(slot >> 8), (uint8_t)slot);
+    paxos_commit_event_at_slot(kind, host->who, slot, event);
+    return call(host, what, event);
 }
 
 static void hosts(size_t slots) {
@@ -198,7 +222,7 @@ static void hosts(size_t slots) {
 
     printf("-- a host for each role; slots in each N and in the inbox: %u\n", (unsigned)slots);
     for (uint8_t i = 0; i < RMS; i++) {
-        struct message proposal = act(&weight[i], "prepares", PAXOS_COMMIT_KIND_PREPARE, 0, 0);
+        struct message proposal = act(&weight[i], "prepares", PAXOS_COMMIT_KIND_PREPARE);
         if (proposal.len > 0)
             show("2a", proposal.bytes, proposal.len);
         for (uint8_t a = 0; a < ACCEPTORS; a++) {
@@ -207,7 +231,7 @@ static void hosts(size_t slots) {
                 continue; /* lost on the way */
             vote = take(&acceptor[a], "votes", PAXOS_COMMIT_KIND_VOTE, &proposal);
             take(&leader, "takes the vote", PAXOS_COMMIT_KIND_RECEIPT, &vote);
-            decision = act(&leader, "decides Commit", PAXOS_COMMIT_KIND_COMMIT, 0, 0);
+            decision = act(&leader, "decides Commit", PAXOS_COMMIT_KIND_COMMIT);
             for (uint8_t k = 0; k < RMS; k++)
                 take(&weight[k], "takes Commit", PAXOS_COMMIT_KIND_TAKE_DECISION, &decision);
         }
@@ -230,7 +254,7 @@ static void hosts(size_t slots) {
     free(leader.network);
 }
 
-/* ---- the writer, and delivery to an N that is none ---- */
+/* ---- the writer ---- */
 
 static void writer(void) {
     uint8_t bytes[PAXOS_COMMIT_SLOT];
@@ -239,11 +263,91 @@ static void writer(void) {
     for (unsigned k = 0; k < PAXOS_COMMIT_SLOT; k++)
         bytes[k] = paxos_commit_byte(written, 2 + k);
     show("2a(1, 0, prepared)", bytes, paxos_commit_byte(written, 1));
-    say("delivered to an N of 17 bytes", paxos_commit_deliver(RMS, ACCEPTORS, LEADERS, network, 17, bytes, 4));
     written = paxos_commit_write(RMS, ACCEPTORS, LEADERS, PAXOS_COMMIT_MAP_1A, 0, 0, 0, 0, 0);
     printf("a 1a at ballot 0: refused, %u\n", paxos_commit_byte(written, 0));
     written = paxos_commit_write(RMS, ACCEPTORS, LEADERS, 0x1E, 0, 0, 0, 0, 0);
     printf("no message's map: refused, %u\n", paxos_commit_byte(written, 0));
+}
+
+/* ---- deliveries: to an N of three slots, of any bytes, and to an N that is none ---- */
+
+static void deliver(const char *what, uint8_t acceptors, uint8_t *n, size_t n_len, const uint8_t *bytes, size_t len) {
+    uint32_t slot = paxos_commit_deliver(RMS, acceptors, LEADERS, n, n_len, bytes, len);
+    if (slot < PAXOS_COMMIT_ANSWER_REFUSED)
+        printf("%s: delivered, in slot %u\n", what, (unsigned)slot);
+    else
+        printf("%s: refused, %u\n", what, (unsigned)paxos_commit_refusal_of(slot));
+}
+
+static void deliveries(void) {
+    static const uint8_t prepared[4] = {PAXOS_COMMIT_MAP_2A, 1, 0, PAXOS_COMMIT_VALUE_PREPARED};
+    static const uint8_t foreign[4] = {PAXOS_COMMIT_MAP_2A, RMS, 0, PAXOS_COMMIT_VALUE_PREPARED};
+    static const uint8_t maps[8] = {PAXOS_COMMIT_MAP_1A,
+                                    PAXOS_COMMIT_MAP_1B,
+                                    PAXOS_COMMIT_MAP_1B_VOTE,
+                                    PAXOS_COMMIT_MAP_2A,
+                                    PAXOS_COMMIT_MAP_2B,
+                                    PAXOS_COMMIT_MAP_DECISION,
+                                    0x1E,
+                                    0x3B};
+    size_t n_len = PAXOS_COMMIT_NETWORK_SIZE(3);
+    uint8_t *n = zeros(n_len), *old = zeros(n_len);
+    unsigned delivered = 0, refused[18] = {0}, changed = 0;
+    deliver("a 2a", ACCEPTORS, n, n_len, prepared, sizeof prepared);
+    deliver("the same 2a", ACCEPTORS, n, n_len, prepared, sizeof prepared);
+    deliver("a cut 2a", ACCEPTORS, n, n_len, prepared, 3);
+    deliver("no bytes", ACCEPTORS, n, n_len, prepared, 0);
+    deliver("a 2a for no weight of the plan", ACCEPTORS, n, n_len, foreign, sizeof foreign);
+    deliver("a 2a to an N of 17 bytes", ACCEPTORS, n, 17, prepared, sizeof prepared);
+    deliver("a 2a without acceptors in the plan", 0, n, n_len, prepared, sizeof prepared);
+    show("N", n, n_len);
+    for (int round = 0; round < 10000; round++) {
+        /* Small numbers behind a map, in a buffer of their length. Every 64th N is damaged, and a new one comes after.
+         */
+        size_t len = 1 + random_byte() % 6, at = random_byte() % n_len;
+        uint8_t *bytes = zeros(len), damage = round % 64 == 0 ? random_byte() : 0, number;
+        bytes[0] = maps[random_byte() % 8];
+        for (size_t k = 1; k < len; k++)
+            bytes[k] = random_byte() % 3;
+        n[at] ^= damage;
+        memcpy(old, n, n_len);
+        number = paxos_commit_refusal_of(paxos_commit_deliver(RMS, ACCEPTORS, LEADERS, n, n_len, bytes, len));
+        if (number == 0) {
+            delivered++;
+        } else {
+            refused[number % 18]++;
+            changed += memcmp(old, n, n_len) != 0;
+        }
+        if (damage != 0)
+            memset(n, 0, n_len);
+        free(bytes);
+    }
+    printf("junk deliveries: %u delivered", delivered);
+    for (unsigned k = 1; k < 18; k++)
+        if (refused[k])
+            printf(", %u refused with %u", refused[k], k);
+    printf("; %u refused ones changed a byte\n", changed);
+    free(n);
+    free(old);
+}
+
+/* ---- nine events and all refusals; hosts/rust/tests/header.rs compares them with the Rust crate's ---- */
+
+static void names(void) {
+    uint8_t event[PAXOS_COMMIT_EVENT];
+    for (uint8_t kind = 0; kind <= PAXOS_COMMIT_KIND_ABORT; kind++) {
+        if (kind >= PAXOS_COMMIT_KIND_TAKE_DECISION && kind <= PAXOS_COMMIT_KIND_RECEIPT)
+            paxos_commit_event_at_slot(kind, 2, 259, event);
+        else if (kind == PAXOS_COMMIT_KIND_PHASE_1A || kind == PAXOS_COMMIT_KIND_PHASE_2A)
+            paxos_commit_event_at_ballot(kind, 2, 4, 9, event);
+        else
+            paxos_commit_event(kind, 2, event);
+        show("event", event, sizeof event);
+    }
+    paxos_commit_event_at_slot(PAXOS_COMMIT_KIND_VOTE, 2, PAXOS_COMMIT_ANSWER_REFUSED + 15, event);
+    show("event with a refused answer as its slot", event, sizeof event);
+    for (uint8_t number = 0; number <= 18; number++)
+        printf("refusal %u: %s\n", number, paxos_commit_refusal_name(number));
 }
 
 int main(void) {
@@ -253,5 +357,7 @@ int main(void) {
     hosts(1);
     hosts(0);
     writer();
+    deliveries();
+    names();
     return 0;
 }

@@ -3,14 +3,13 @@
  *
  * The calls are written in Rattle and proved to answer and store exactly what document 01 says. Each group below is a
  * static library of its own; a host links the one that it needs, and none has another role's code. They link into
- * x86-64 programs, position independent or not, and use less than 8 KiB of stack. libhost_message.a wants no other
- * symbol, the other four want `memset`.
+ * x86-64 programs, position independent or not, use less than 8 KiB of stack, and want `memset` and nothing else.
  *
- *     libhost_message.a     paxos_commit_read, paxos_commit_write
+ *     libhost_message.a     paxos_commit_read, paxos_commit_write, paxos_commit_deliver
  *     libhost_rm.a          paxos_commit_rm_step
  *     libhost_acceptor.a    paxos_commit_acceptor_step
  *     libhost_leader.a      paxos_commit_leader_step
- *     libhost_record.a      paxos_commit_open, paxos_commit_step
+ *     libhost_record.a      paxos_commit_open, paxos_commit_step, paxos_commit_ending
  *
  * What is lent is any bytes of any length: there is nothing to check before a call. A call accepts, or answers one
  * refusal, the one with the lowest number that applies; a refusal changes no byte. Every call ends.
@@ -23,8 +22,9 @@
  * Calls keep nothing between them: no state, no pointer, no lock. Several threads may call at once, each on tables that
  * no other call uses at that time.
  *
- * Every named number says by its prefix what it is: REFUSAL_, STATE_, VALUE_, DECISION_, MAP_, KIND_ or ANSWER_. The
- * Rust crate has the same names for the refusals. docs/HOSTS.md shows a whole host and what to do about each refusal.
+ * Every named number says by its prefix what it is: REFUSAL_, STATE_, VALUE_, DECISION_, ENDING_, MAP_, KIND_ or
+ * ANSWER_. The Rust crate has the same names for the refusals. docs/HOSTS.md shows a whole host, says what is asked of
+ * one, and what to do about each refusal.
  */
 #ifndef PAXOS_COMMIT_H
 #define PAXOS_COMMIT_H
@@ -42,6 +42,7 @@ extern "C" {
  * call compares it. */
 
 /* Sizes in bytes. N (network) has `slots` slots, at most 1,024, and so has each inbox of I (inboxes); 0 is allowed. */
+#define PAXOS_COMMIT_EVENT 4
 #define PAXOS_COMMIT_SLOT 6
 #define PAXOS_COMMIT_MAX_SLOTS 1024
 #define PAXOS_COMMIT_STATES_SIZE(rms) ((size_t)(rms))
@@ -82,15 +83,15 @@ enum paxos_commit_refusal {
     PAXOS_COMMIT_REFUSAL_CONTRADICTION = 11,
     /* the action is not enabled */
     PAXOS_COMMIT_REFUSAL_NOT_ENABLED = 12,
-    /* the message to send is not in N, and N has no unused slot */
+    /* the message to send or deliver is not in N, and N has no unused slot */
     PAXOS_COMMIT_REFUSAL_NETWORK_FULL = 13,
     /* likewise for the inbox */
     PAXOS_COMMIT_REFUSAL_INBOX_FULL = 14,
-    /* reader: no bytes, or an unknown map; writer: a map that is none of the six */
+    /* reader, delivery: no bytes, or an unknown map; writer: a map that is none of the six */
     PAXOS_COMMIT_REFUSAL_UNKNOWN_MAP = 15,
-    /* reader: the length is not the map's */
+    /* reader, delivery: the length is not the map's */
     PAXOS_COMMIT_REFUSAL_WRONG_LENGTH = 16,
-    /* reader, writer: ins, acc or val out of range, or a 1a with bal 0 */
+    /* reader, writer, delivery: ins, acc or val out of range, or a 1a with bal 0 */
     PAXOS_COMMIT_REFUSAL_OUT_OF_RANGE = 17
 };
 
@@ -107,6 +108,13 @@ enum paxos_commit_value { PAXOS_COMMIT_VALUE_PREPARED = 1, PAXOS_COMMIT_VALUE_AB
 
 /* What a leader decided, `val` of a decision. */
 enum paxos_commit_decision { PAXOS_COMMIT_DECISION_COMMIT = 1, PAXOS_COMMIT_DECISION_ABORT = 2 };
+
+/* How an order stands: all weights committed, all aborted, or anything else. Numbered as a decision is. */
+enum paxos_commit_ending {
+    PAXOS_COMMIT_ENDING_OPEN = 0,
+    PAXOS_COMMIT_ENDING_COMMITTED = 1,
+    PAXOS_COMMIT_ENDING_ABORTED = 2
+};
 
 /* A message's first byte, its bit map; then one byte for each field whose bit stands: bit 0 ins, 1 acc, 2 mbal, 3 bal,
  * 4 val. */
@@ -135,11 +143,11 @@ enum paxos_commit_kind {
 
 /* What a step answers: below 1,024 the slot of N where the sent message stands; ANSWER_QUIET for an accepted step that
  * sends nothing (kinds 2 and 4); or ANSWER_REFUSED and the refusal's number added, so that every refused answer is
- * above ANSWER_REFUSED and none is a slot. */
+ * above ANSWER_REFUSED and none is a slot. A delivery and the ending refuse so too. */
 #define PAXOS_COMMIT_ANSWER_QUIET ((uint32_t)65535)
 #define PAXOS_COMMIT_ANSWER_REFUSED ((uint32_t)65536)
 
-/* The refusal that a step's answer is; 0 for an accepted step. */
+/* The refusal that such an answer is; 0 for an accepted call. */
 static inline uint8_t paxos_commit_refusal_of(uint32_t answer) {
     return answer < PAXOS_COMMIT_ANSWER_REFUSED ? 0 : (uint8_t)(answer - PAXOS_COMMIT_ANSWER_REFUSED);
 }
@@ -159,6 +167,12 @@ uint64_t paxos_commit_read(uint8_t rms, uint8_t acceptors, uint8_t leaders, cons
  * zeros, as in a slot. Refused: byte 0 is 1, 15 (a map that is none of the six) or 17, the others are 0. */
 uint64_t paxos_commit_write(uint8_t rms, uint8_t acceptors, uint8_t leaders, uint8_t map, uint8_t ins, uint8_t acc,
                             uint8_t mbal, uint8_t bal, uint8_t val);
+
+/* The delivery: what another host sent, or any other bytes, came to this host, whose N is lent. The message goes into
+ * the first unused slot unless it stands in N. The answer is the first slot where it stands, which events of kinds 2, 3
+ * and 4 name. Refused: 1, 2, 5, 13, 15, 16 or 17. */
+uint32_t paxos_commit_deliver(uint8_t rms, uint8_t acceptors, uint8_t leaders, uint8_t *network, size_t network_len,
+                              const uint8_t *bytes, size_t len);
 
 /* ---- libhost_rm.a ---- */
 
@@ -194,28 +208,38 @@ uint32_t paxos_commit_step(uint8_t rms, uint8_t acceptors, uint8_t leaders, uint
                            uint8_t *votes, size_t votes_len, uint8_t *network, size_t network_len, uint8_t *inboxes,
                            size_t inboxes_len, const uint8_t *event, size_t event_len);
 
+/* How the order with this W stands: an ENDING_. Refused: 1, 2 or 3. */
+uint32_t paxos_commit_ending(uint8_t rms, uint8_t acceptors, uint8_t leaders, const uint8_t *states, size_t states_len);
+
 /* ---- what a host does around the calls; plain C, tested and not proved ---- */
 
-/* A message that another host sent goes into this host's N, unless it stands there, and its slot is answered, which
- * events of kinds 2, 3 and 4 name. Refused, by ANSWER_REFUSED and the number: what the reader refuses, and 2 and 13 for
- * N; then no byte changes. On a sound N it leaves a sound one. It calls the reader: link libhost_message.a. */
-static inline uint32_t paxos_commit_deliver(uint8_t rms, uint8_t acceptors, uint8_t leaders, uint8_t *network,
-                                            size_t network_len, const uint8_t *bytes, size_t len) {
-    const uint8_t unused[PAXOS_COMMIT_SLOT] = {0};
-    uint8_t message[PAXOS_COMMIT_SLOT] = {0};
-    uint8_t refusal = paxos_commit_byte(paxos_commit_read(rms, acceptors, leaders, bytes, len), 0);
-    if (refusal != 0)
-        return PAXOS_COMMIT_ANSWER_REFUSED + refusal;
-    if (network_len % PAXOS_COMMIT_SLOT != 0 || network_len > PAXOS_COMMIT_NETWORK_MAX)
-        return PAXOS_COMMIT_ANSWER_REFUSED + PAXOS_COMMIT_REFUSAL_BAD_LENGTHS;
-    memcpy(message, bytes, len); /* at most six: the reader has read them */
-    for (size_t at = 0; at < network_len; at += PAXOS_COMMIT_SLOT) {
-        if (memcmp(network + at, unused, PAXOS_COMMIT_SLOT) == 0)
-            memcpy(network + at, message, PAXOS_COMMIT_SLOT);
-        if (memcmp(network + at, message, PAXOS_COMMIT_SLOT) == 0)
-            return (uint32_t)(at / PAXOS_COMMIT_SLOT);
-    }
-    return PAXOS_COMMIT_ANSWER_REFUSED + PAXOS_COMMIT_REFUSAL_NETWORK_FULL;
+/* The bytes of an event; `who` is the host's own number. Kinds 0, 1, 7 and 8: */
+static inline void paxos_commit_event(uint8_t kind, uint8_t who, uint8_t event[PAXOS_COMMIT_EVENT]) {
+    event[0] = kind;
+    event[1] = who;
+    event[2] = 0;
+    event[3] = 0;
+}
+
+/* Kinds 2, 3 and 4, with the slot of N that a delivery or a step answered. A refused answer names no slot: then it is
+ * 65535, which is beyond every N. */
+static inline void paxos_commit_event_at_slot(uint8_t kind, uint8_t who, uint32_t slot,
+                                              uint8_t event[PAXOS_COMMIT_EVENT]) {
+    if (slot >= PAXOS_COMMIT_ANSWER_REFUSED)
+        slot = 65535;
+    event[0] = kind;
+    event[1] = who;
+    event[2] = (uint8_t)(slot >> 8);
+    event[3] = (uint8_t)slot;
+}
+
+/* Kinds 5 and 6, with an instance and a ballot. */
+static inline void paxos_commit_event_at_ballot(uint8_t kind, uint8_t who, uint8_t ins, uint8_t bal,
+                                                uint8_t event[PAXOS_COMMIT_EVENT]) {
+    event[0] = kind;
+    event[1] = who;
+    event[2] = ins;
+    event[3] = bal;
 }
 
 /* What a step with this answer sent, as it goes over the wire: the message's bytes, and its length, which is 1 and the
@@ -229,6 +253,48 @@ static inline size_t paxos_commit_sent(const uint8_t *network, size_t network_le
     for (unsigned bit = 0; bit < 5; bit++)
         len += message[0] >> bit & 1;
     return len;
+}
+
+/* A refusal in words, with its number; "no refusal" for 0 and for a number above 17. */
+static inline const char *paxos_commit_refusal_name(uint8_t number) {
+    switch (number) {
+    case PAXOS_COMMIT_REFUSAL_BAD_PLAN:
+        return "plan out of range (1)";
+    case PAXOS_COMMIT_REFUSAL_BAD_LENGTHS:
+        return "lengths of the tables do not fit the plan (2)";
+    case PAXOS_COMMIT_REFUSAL_BAD_STATES:
+        return "W holds a byte that is no state (3)";
+    case PAXOS_COMMIT_REFUSAL_BAD_VOTES:
+        return "Q holds a vote that is none (4)";
+    case PAXOS_COMMIT_REFUSAL_BAD_NETWORK:
+        return "N is damaged (5)";
+    case PAXOS_COMMIT_REFUSAL_BAD_INBOX:
+        return "an inbox is damaged (6)";
+    case PAXOS_COMMIT_REFUSAL_BAD_EVENT:
+        return "no event (7)";
+    case PAXOS_COMMIT_REFUSAL_NO_MESSAGE:
+        return "the slot is unused or beyond N (8)";
+    case PAXOS_COMMIT_REFUSAL_WRONG_ROLE:
+        return "the message is not for this role (9)";
+    case PAXOS_COMMIT_REFUSAL_NOT_OWNED:
+        return "ballot not owned (10)";
+    case PAXOS_COMMIT_REFUSAL_CONTRADICTION:
+        return "the decision contradicts the state (11)";
+    case PAXOS_COMMIT_REFUSAL_NOT_ENABLED:
+        return "not enabled (12)";
+    case PAXOS_COMMIT_REFUSAL_NETWORK_FULL:
+        return "N is full (13)";
+    case PAXOS_COMMIT_REFUSAL_INBOX_FULL:
+        return "the inbox is full (14)";
+    case PAXOS_COMMIT_REFUSAL_UNKNOWN_MAP:
+        return "no message, or an unknown one (15)";
+    case PAXOS_COMMIT_REFUSAL_WRONG_LENGTH:
+        return "the length is not the message's (16)";
+    case PAXOS_COMMIT_REFUSAL_OUT_OF_RANGE:
+        return "a field of the message is out of range (17)";
+    default:
+        return "no refusal";
+    }
 }
 
 #ifdef __cplusplus

@@ -62,7 +62,7 @@ fn main() -> Result<(), Box<dyn Error>> {
                 }
             }
             Err(refusal) => {
-                println!("refused: {}", refusal.number());
+                println!("refused: {refusal}");
                 if refusal < Refusal::WrongRole {
                     return Err(refusal.into()); // damage, or a fault of this host
                 }

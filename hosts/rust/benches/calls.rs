@@ -297,7 +297,7 @@ fn by_hand(own: bool, tables: &mut Tables, event: &[u8; 4]) -> Result<reference:
     }
 }
 
-/// Reading, writing and opening as calls. A linked library's is one too: neither is inlined into the loop that times it.
+/// These as calls. A linked library's is one too: neither is inlined into the loop that times it.
 #[inline(never)]
 fn read_by_hand(plan: reference::Plan, bytes: &[u8]) -> Result<reference::Message, u8> {
     reference::read(plan, bytes)
@@ -312,6 +312,16 @@ fn write_by_hand(plan: reference::Plan, message: reference::Message) -> (u8, [u8
 fn open_by_hand(plan: reference::Plan, tables: &mut Tables) -> Result<(), u8> {
     let Tables { states, votes, network, inboxes } = tables;
     reference::open(plan, states, votes, network, inboxes)
+}
+
+#[inline(never)]
+fn deliver_by_hand(plan: reference::Plan, network: &mut [u8], bytes: &[u8]) -> Result<usize, u8> {
+    reference::deliver(plan, network, bytes)
+}
+
+#[inline(never)]
+fn ending_by_hand(plan: reference::Plan, states: &[u8]) -> Result<reference::Ending, u8> {
+    reference::ending(plan, states)
 }
 
 /// The time of a batch of calls, each on restored tables.
@@ -343,15 +353,24 @@ fn nanoseconds(batch: Duration, empty: Duration) -> f64 {
     (batch.saturating_sub(empty).as_nanos() as f64 / CALLS as f64).max(0.1)
 }
 
-fn time(own: bool, old: &Tables, event: &[u8; 4]) -> Times {
+/// Calls that change the tables.
+fn time_on<A, B>(
+    old: &Tables,
+    mut linked: impl FnMut(&mut Tables) -> A,
+    mut by_hand: impl FnMut(&mut Tables) -> B,
+) -> Times {
     let mut tables = old.clone();
     let [mut empty, mut first, mut second] = [Duration::MAX; 3];
     for _ in 0..BATCHES {
         empty = empty.min(batch(&mut tables, old, |_| ()));
-        first = first.min(batch(&mut tables, old, |tables| linked(own, tables, event)));
-        second = second.min(batch(&mut tables, old, |tables| by_hand(own, tables, event)));
+        first = first.min(batch(&mut tables, old, &mut linked));
+        second = second.min(batch(&mut tables, old, &mut by_hand));
     }
     Times { linked: nanoseconds(first, empty), by_hand: nanoseconds(second, empty) }
+}
+
+fn time(own: bool, old: &Tables, event: &[u8; 4]) -> Times {
+    time_on(old, |tables| linked(own, tables, event), |tables| by_hand(own, tables, event))
 }
 
 /// Both engines once: the same answer, the same tables.
@@ -411,9 +430,9 @@ fn rehearse(input: &[u8]) -> String {
         out.push('\n');
     }
     out.push_str(match record.ending() {
-        paxos_commit::Ending::Committed => "COMMITTED\n",
-        paxos_commit::Ending::Aborted => "ABORTED\n",
-        paxos_commit::Ending::Open => "OPEN\n",
+        Ok(paxos_commit::Ending::Committed) => "COMMITTED\n",
+        Ok(paxos_commit::Ending::Aborted) => "ABORTED\n",
+        _ => "OPEN\n",
     });
     out
 }
@@ -493,11 +512,65 @@ impl Report {
             times.linked / unit,
             times.by_hand / unit
         );
-        self.keep("Reader, writer, opening, rehearsal".to_string(), name, &times);
+        self.keep("The other calls, rehearsal".to_string(), name, &times);
+    }
+
+    /// A delivery of a 2b to an N that is used so far, and of what is no message.
+    fn deliveries(&mut self) {
+        let vote = message_2b(3, 2, 0, 1);
+        for (name, used, last, damaged, bytes) in [
+            ("deliver a 2b, N fresh", 0, None, false, &vote[..5]),
+            ("deliver a 2b, N half used", SLOTS / 2, None, false, &vote[..5]),
+            ("deliver a 2b into slot 1023, the last unused", SLOTS - 1, None, false, &vote[..5]),
+            ("deliver a 2b that stands in slot 511, N half used", SLOTS / 2, Some(vote), false, &vote[..5]),
+            ("deliver a 2b that stands in slot 1023, N full", SLOTS, Some(vote), false, &vote[..5]),
+            ("deliver a 2b, N full (13)", SLOTS, None, false, &vote[..5]),
+            ("deliver a 2b, last byte of N damaged (5)", SLOTS / 2, None, true, &vote[..5]),
+            ("deliver a cut 2b, N fresh (16)", 0, None, false, &vote[..4]),
+            ("deliver a cut 2b, N half used (16)", SLOTS / 2, None, false, &vote[..4]),
+        ] {
+            let mut old = Tables::fresh();
+            fill(&mut Random(0x9E37_79B9_7F4A_7C15), &mut old.network, &[], used, last, false);
+            if damaged {
+                old.network[6 * SLOTS - 1] = 1;
+            }
+            let linked = |tables: &mut Tables| {
+                paxos_commit::deliver(black_box(PLAN), &mut tables.network, black_box(bytes)).map(usize::from)
+            };
+            let by_hand =
+                |tables: &mut Tables| deliver_by_hand(black_box(REFERENCE_PLAN), &mut tables.network, black_box(bytes));
+            let (mut first, mut second) = (old.clone(), old.clone());
+            assert_eq!(linked(&mut first).map_err(Refusal::number), by_hand(&mut second), "{name}");
+            assert!(first == second, "{name}: tables differ");
+            self.line(name, 1.0, 0, time_on(&old, linked, by_hand));
+        }
+    }
+
+    /// How an order of 16 weights stands.
+    fn endings(&mut self) {
+        let mut last = [2; 16];
+        last[15] = 1;
+        let mut none = [2; 16];
+        none[15] = 4;
+        for (name, states) in [
+            ("ending, all committed", [2; 16]),
+            ("ending, all aborted", [3; 16]),
+            ("ending, all working: open", [0; 16]),
+            ("ending, the last weight prepared: open", last),
+            ("ending, the last byte no state (3)", none),
+        ] {
+            let said = paxos_commit::ending(PLAN, &states).map(|ending| ending as usize).map_err(Refusal::number);
+            assert_eq!(said, reference::ending(REFERENCE_PLAN, &states).map(|ending| ending as usize), "{name}");
+            let times = time_plain(
+                || paxos_commit::ending(black_box(PLAN), black_box(&states)),
+                || ending_by_hand(black_box(REFERENCE_PLAN), black_box(&states)),
+            );
+            self.line(name, 1.0, 1, times);
+        }
     }
 
     fn others(&mut self) {
-        println!("### Reader, writer, opening\n\n| call | ratio | linked, ns | Rust, ns |\n|---|---|---|---|");
+        println!("### The other calls\n\n| call | ratio | linked, ns | Rust, ns |\n|---|---|---|---|");
         let messages: [(&str, Vec<u8>); 9] = [
             ("read a 1a", vec![0x09, 3, 9]),
             ("read a 1b", vec![0x07, 3, 2, 9]),
@@ -531,6 +604,7 @@ impl Report {
             || write_by_hand(black_box(REFERENCE_PLAN), black_box(message)),
         );
         self.line("write a 2a", 1.0, 1, times);
+        self.deliveries();
         // Both on the same tables: how long clearing takes depends on where they lie.
         let tables = RefCell::new(Tables::fresh());
         let times = time_plain(
@@ -541,6 +615,7 @@ impl Report {
             || open_by_hand(black_box(REFERENCE_PLAN), &mut tables.borrow_mut()),
         );
         self.line("open, largest tables", 1.0, 0, times);
+        self.endings();
         println!(
             "\n### The rehearsal of 8,192 events\n\n| events | ratio | linked, ms | Rust, ms |\n|---|---|---|---|"
         );

@@ -29,6 +29,17 @@ unsafe extern "C" {
         val: u8,
     ) -> u64;
 
+    #[cfg(feature = "message")]
+    fn paxos_commit_deliver(
+        rms: u8,
+        acceptors: u8,
+        leaders: u8,
+        network: *mut u8,
+        network_len: usize,
+        bytes: *const u8,
+        len: usize,
+    ) -> u32;
+
     #[cfg(feature = "rm")]
     fn paxos_commit_rm_step(
         rms: u8,
@@ -99,6 +110,9 @@ unsafe extern "C" {
         event: *const u8,
         event_len: usize,
     ) -> u32;
+
+    #[cfg(feature = "record")]
+    fn paxos_commit_ending(rms: u8, acceptors: u8, leaders: u8, states: *const u8, states_len: usize) -> u32;
 }
 
 #[cfg(feature = "message")]
@@ -114,6 +128,23 @@ pub fn write(plan: Plan, fields: [u8; 6]) -> [u8; 8] {
     let [map, ins, acc, mbal, bal, val] = fields;
     // SAFETY: numbers only.
     unsafe { paxos_commit_write(plan.rms, plan.acceptors, plan.leaders, map, ins, acc, mbal, bal, val) }.to_le_bytes()
+}
+
+#[cfg(feature = "message")]
+#[inline]
+pub fn deliver(plan: Plan, network: &mut [u8], bytes: &[u8]) -> u32 {
+    // SAFETY: two slices, of which the one that may be written overlaps nothing.
+    unsafe {
+        paxos_commit_deliver(
+            plan.rms,
+            plan.acceptors,
+            plan.leaders,
+            network.as_mut_ptr(),
+            network.len(),
+            bytes.as_ptr(),
+            bytes.len(),
+        )
+    }
 }
 
 #[cfg(any(feature = "rm", feature = "acceptor", feature = "leader"))]
@@ -203,4 +234,11 @@ pub fn step(
             event.len(),
         )
     }
+}
+
+#[cfg(feature = "record")]
+#[inline]
+pub fn ending(plan: Plan, states: &[u8]) -> u32 {
+    // SAFETY: `states` is a slice.
+    unsafe { paxos_commit_ending(plan.rms, plan.acceptors, plan.leaders, states.as_ptr(), states.len()) }
 }

@@ -6,15 +6,13 @@
 //!
 //! | Feature | Static library | Calls |
 //! |---|---|---|
-//! | `message` | `libhost_message.a` | [`Message::read`], [`Message::write`], [`Fields::write`] |
+//! | `message` | `libhost_message.a` | [`Message::read`], [`Message::write`], [`Fields::write`], [`deliver`] |
 //! | `rm` | `libhost_rm.a` | [`rm_step`] |
 //! | `acceptor` | `libhost_acceptor.a` | [`acceptor_step`] |
 //! | `leader` | `libhost_leader.a` | [`leader_step`] |
-//! | `record` | `libhost_record.a` | [`open`], [`step`], and [`Record`] over them |
+//! | `record` | `libhost_record.a` | [`open`], [`step`], [`ending`], and [`Record`] over them |
 //!
-//! A host of one role takes that role's feature and `message`; all five are the default. [`deliver`] is the one thing
-//! here that does work of its own: it puts a message that came from another host into a host's network table. It is
-//! plain Rust, tested and not proved.
+//! A host of one role takes that role's feature and `message`; all five are the default.
 //!
 //! Document 01's example, an order of one weight that ends committed:
 //!
@@ -29,7 +27,7 @@
 //! assert_eq!(record.step(Event::Commit { leader: 0 }), Ok(Answer::Slot(2)));
 //! assert_eq!(record.step(Event::TakeDecision { rm: 0, slot: 2 }), Ok(Answer::Quiet));
 //! assert_eq!(record.step(Event::ChooseToAbort { rm: 0 }), Err(Refusal::NotEnabled));
-//! assert_eq!(record.ending(), Ending::Committed);
+//! assert_eq!(record.ending(), Ok(Ending::Committed));
 //!
 //! // Whatever the network brings:
 //! assert_eq!(record.step_bytes(b"anything"), Err(Refusal::BadEvent));
@@ -59,7 +57,7 @@ pub use message::deliver;
 pub use message::{Decision, Fields, Message, Value, Vote, Written};
 pub use plan::{MAX_SLOTS, Plan, SLOT, State, slots_len};
 #[cfg(feature = "record")]
-pub use record::{Ending, Record, open, step};
+pub use record::{Ending, Record, ending, open, step};
 pub use refusal::Refusal;
 #[cfg(feature = "acceptor")]
 pub use roles::acceptor_step;

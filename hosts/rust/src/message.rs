@@ -1,9 +1,9 @@
-//! Messages, their byte form, and putting a message that came from elsewhere into a network table.
+//! Messages, their byte form, and the delivery of what came from another host.
 
 #[cfg(feature = "message")]
 use crate::answer::{outside, refused};
 #[cfg(feature = "message")]
-use crate::plan::{MAX_SLOTS, SLOT};
+use crate::plan::SLOT;
 #[cfg(feature = "message")]
 use crate::{Plan, Refusal, ffi};
 use core::ops::Deref;
@@ -219,12 +219,11 @@ impl Message {
     }
 }
 
-/// Puts a message that another host sent into this host's network table, unless it stands there, and answers its slot,
-/// which events of kinds 2, 3 and 4 name. It refuses what the reader refuses, [`Refusal::BadLengths`] and
-/// [`Refusal::NetworkFull`], and then changes no byte. On a sound table it leaves a sound one.
+/// The proved delivery: what another host sent, or any other bytes, came to the host whose network table is lent. The
+/// message goes into the first unused slot unless it stands in the table; the answer is the first slot where it stands,
+/// which events of kinds 2, 3 and 4 name.
 ///
-/// The rehearsal needs no such thing, since all roles share one table there. It is plain Rust around the proved reader,
-/// tested and not proved.
+/// Refusals: `BadPlan`, `BadLengths`, `BadNetwork`, `NetworkFull`, `UnknownMap`, `WrongLength`, `OutOfRange`.
 ///
 /// ```
 /// use paxos_commit::{deliver, slots_len, Plan, Refusal};
@@ -235,22 +234,14 @@ impl Message {
 /// assert_eq!(deliver(plan, &mut network, &[0x09, 0, 1]), Ok(0));
 /// assert_eq!(deliver(plan, &mut network, &[0x09, 0, 2]), Err(Refusal::NetworkFull));
 /// assert_eq!(deliver(plan, &mut network, b"?"), Err(Refusal::UnknownMap));
+/// network[5] = 1;
+/// assert_eq!(deliver(plan, &mut network, &[0x09, 0, 1]), Err(Refusal::BadNetwork));
 /// ```
 #[cfg(feature = "message")]
+#[inline]
 pub fn deliver(plan: Plan, network: &mut [u8], bytes: &[u8]) -> Result<u16, Refusal> {
-    Fields::read(plan, bytes)?;
-    if !network.len().is_multiple_of(SLOT) || network.len() / SLOT > MAX_SLOTS {
-        return Err(Refusal::BadLengths);
+    match ffi::deliver(plan, network, bytes) {
+        slot @ 0..1024 => Ok(slot as u16),
+        code => Err(refused(code.wrapping_sub(65536))),
     }
-    let mut message = [0; SLOT];
-    message[..bytes.len()].copy_from_slice(bytes);
-    for (number, slot) in network.chunks_exact_mut(SLOT).enumerate() {
-        if *slot == [0; SLOT] {
-            slot.copy_from_slice(&message);
-        }
-        if *slot == message {
-            return Ok(number as u16);
-        }
-    }
-    Err(Refusal::NetworkFull)
 }

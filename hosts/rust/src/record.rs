@@ -1,4 +1,4 @@
-//! The record: the four tables together, opening them, and the event call of all nine kinds.
+//! The record: the four tables together, opening them, the event call of all nine kinds, and how the order stands.
 
 use crate::answer::refused;
 use crate::plan::slots_len;
@@ -33,15 +33,40 @@ pub fn step(
     Answer::of(ffi::step(plan, states, votes, network, inboxes, event))
 }
 
-/// How an order stands.
+/// How an order stands. Numbered as a [`Decision`](crate::Decision) is.
 #[derive(Clone, Copy, Debug, PartialEq, Eq, Hash)]
+#[repr(u8)]
 pub enum Ending {
-    /// All weights are committed.
-    Committed,
-    /// All weights are aborted.
-    Aborted,
-    /// Anything else.
-    Open,
+    /// 0: neither of the two.
+    Open = 0,
+    /// 1: all weights are committed.
+    Committed = 1,
+    /// 2: all weights are aborted.
+    Aborted = 2,
+}
+
+/// How the order with this W stands.
+///
+/// Refusals: `BadPlan`, `BadLengths`, `BadStates`.
+///
+/// ```
+/// use paxos_commit::{ending, Ending, Plan, Refusal};
+///
+/// let plan = Plan { rms: 3, acceptors: 3, leaders: 1 };
+/// assert_eq!(ending(plan, &[2, 2, 2]), Ok(Ending::Committed));
+/// assert_eq!(ending(plan, &[3, 3, 3]), Ok(Ending::Aborted));
+/// assert_eq!(ending(plan, &[2, 2, 1]), Ok(Ending::Open));
+/// assert_eq!(ending(plan, &[2, 2]), Err(Refusal::BadLengths));
+/// assert_eq!(ending(plan, &[2, 2, 4]), Err(Refusal::BadStates));
+/// ```
+#[inline]
+pub fn ending(plan: Plan, states: &[u8]) -> Result<Ending, Refusal> {
+    match ffi::ending(plan, states) {
+        0 => Ok(Ending::Open),
+        1 => Ok(Ending::Committed),
+        2 => Ok(Ending::Aborted),
+        code => Err(refused(code.wrapping_sub(65536))),
+    }
 }
 
 /// A plan and the four tables of its record, owned (`Record<Vec<u8>>`) or borrowed (`Record<&mut [u8]>`).
@@ -148,17 +173,10 @@ impl<T: AsRef<[u8]> + AsMut<[u8]>> Record<T> {
         self.network().as_chunks().0.get(usize::from(slot)).copied()
     }
 
-    /// How the order stands; open where W is not of the plan's length.
-    pub fn ending(&self) -> Ending {
-        if self.states().is_empty() || self.states().len() != self.plan.states_len() {
-            Ending::Open
-        } else if self.states().iter().all(|&state| state == crate::State::Committed as u8) {
-            Ending::Committed
-        } else if self.states().iter().all(|&state| state == crate::State::Aborted as u8) {
-            Ending::Aborted
-        } else {
-            Ending::Open
-        }
+    /// How the order stands; it refuses `BadPlan`, `BadLengths` and `BadStates`.
+    #[inline]
+    pub fn ending(&self) -> Result<Ending, Refusal> {
+        ending(self.plan, self.states())
     }
 
     /// W, Q, N and I.

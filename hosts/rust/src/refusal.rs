@@ -33,7 +33,7 @@ pub enum Refusal {
     Contradiction = 11,
     /// 12: the action is not enabled.
     NotEnabled = 12,
-    /// 13: the message to send is not in N, and N has no unused slot.
+    /// 13: the message to send or deliver is not in N, and N has no unused slot.
     NetworkFull = 13,
     /// 14: likewise for the inbox.
     InboxFull = 14,

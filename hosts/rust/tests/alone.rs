@@ -11,7 +11,9 @@ const ONE: Plan = Plan { rms: 1, acceptors: 1, leaders: 1 };
 #[test]
 fn message() {
     let message = Message::Decision { val: Decision::Abort };
-    assert_eq!(Message::read(ONE, &message.write(ONE).unwrap()), Ok(message));
+    let written = message.write(ONE).unwrap();
+    assert_eq!(Message::read(ONE, &written), Ok(message));
+    assert_eq!(deliver(ONE, &mut [0; 6], &written), Ok(0));
 }
 
 #[cfg(feature = "rm")]
@@ -36,5 +38,7 @@ fn leader() {
 #[cfg(feature = "record")]
 #[test]
 fn record() {
-    assert_eq!(Record::fresh(ONE, 1, 0).unwrap().step(Event::Prepare { rm: 0 }), Ok(Answer::Slot(0)));
+    let mut record = Record::fresh(ONE, 1, 0).unwrap();
+    assert_eq!(record.step(Event::ChooseToAbort { rm: 0 }), Ok(Answer::Slot(0)));
+    assert_eq!(record.ending(), Ok(Ending::Aborted));
 }

@@ -72,7 +72,7 @@ fn rehearsal() {
     let mut record = Record::fresh(ONE, MAX_SLOTS, MAX_SLOTS).unwrap();
     let lines = events.map(|event| record.step_bytes(&event).err().map_or(0, Refusal::number));
     assert_eq!(lines, [0, 0, 0, 0, 0, 12]);
-    assert_eq!(record.ending(), Ending::Committed);
+    assert_eq!(record.ending(), Ok(Ending::Committed));
     assert_eq!(record.slot(2), Some([0x10, 1, 0, 0, 0, 0]));
     assert_eq!(Message::in_slot(ONE, record.network(), 2), Ok(Message::Decision { val: Decision::Commit }));
     assert_eq!(Message::in_slot(ONE, record.network(), 3), Err(Refusal::NoMessage));
@@ -154,6 +154,8 @@ fn limits() {
         assert_eq!(acceptor_step(plan, &mut [], &mut [], &[]), Err(Refusal::BadPlan));
         assert_eq!(leader_step(plan, &mut [], &mut [], &[]), Err(Refusal::BadPlan));
         assert_eq!(step(plan, &mut [], &mut [], &mut [], &mut [], &[]), Err(Refusal::BadPlan));
+        assert_eq!(deliver(plan, &mut [], &[]), Err(Refusal::BadPlan));
+        assert_eq!(ending(plan, &[]), Err(Refusal::BadPlan));
     }
     let largest = Plan { rms: 16, acceptors: 7, leaders: 4 };
     assert!(Record::fresh(largest, MAX_SLOTS, MAX_SLOTS).is_ok());
@@ -213,7 +215,9 @@ fn delivery_keeps_tables_sound() {
         assert_eq!(judged, Err(Refusal::NoMessage));
     }
     assert!(delivered > 1000 && full > 1000, "{delivered} {full}");
-    assert_eq!(deliver(plan, &mut [0; 7], &[0x10, 1]), Err(Refusal::BadLengths));
+    assert_eq!(deliver(plan, &mut [0; 7], b"?"), Err(Refusal::BadLengths));
+    assert_eq!(deliver(plan, &mut [1; 6], b"?"), Err(Refusal::BadNetwork));
+    assert_eq!(deliver(plan, &mut [], b"?"), Err(Refusal::UnknownMap));
     assert_eq!(deliver(plan, &mut vec![0; slots_len(1025)], &[0x10, 1]), Err(Refusal::BadLengths));
     assert_eq!(deliver(plan, &mut [], &[0x10, 1]), Err(Refusal::NetworkFull));
 }

@@ -4,6 +4,8 @@ use paxos_commit::*;
 use std::collections::BTreeMap;
 
 const HEADER: &str = include_str!("../../c/paxos_commit.h");
+/// What the C host prints, which hosts/test sees to.
+const PRINTED: &str = include_str!("../../c/host.stdout");
 const HOSTS: &str = include_str!("../../../docs/HOSTS.md");
 
 /// What the header's enums name, without `PAXOS_COMMIT_`.
@@ -73,7 +75,37 @@ fn the_header_has_the_names_and_numbers_of_this_crate() {
         [Decision::Commit, Decision::Abort]
             .map(|decision| ("DECISION_".to_string() + &upper(decision), decision as u8)),
     );
+    names.extend(
+        [Ending::Open, Ending::Committed, Ending::Aborted]
+            .map(|ending| ("ENDING_".to_string() + &upper(ending), ending as u8)),
+    );
     assert_eq!(header(), names);
+}
+
+/// The header's functions make the events of this crate, and have its words for the refusals.
+#[test]
+fn the_c_host_prints_the_events_and_refusals_of_this_crate() {
+    let (rm, acceptor, leader, slot, ins, bal) = (2, 2, 2, 259, 4, 9);
+    let events = [
+        Event::Prepare { rm },
+        Event::ChooseToAbort { rm },
+        Event::TakeDecision { rm, slot },
+        Event::Vote { acceptor, slot },
+        Event::Receipt { leader, slot },
+        Event::Phase1a { leader, ins, bal },
+        Event::Phase2a { leader, ins, bal },
+        Event::Commit { leader },
+        Event::Abort { leader },
+    ];
+    let printed: Vec<&str> = PRINTED.lines().filter_map(|line| line.strip_prefix("event: ")).collect();
+    assert_eq!(printed, events.map(|event| event.bytes().map(|byte| format!("{byte:02X}")).join(" ")));
+
+    let printed: Vec<&str> = PRINTED.lines().filter(|line| line.starts_with("refusal ")).collect();
+    let words = |number| match Refusal::from_number(number) {
+        Some(refusal) => format!("refusal {number}: {refusal}"),
+        None => format!("refusal {number}: no refusal"),
+    };
+    assert_eq!(printed, (0..=18).map(words).collect::<Vec<_>>());
 }
 
 #[test]

@@ -1,7 +1,7 @@
 //! A history of calls, the two engines that it is run on, and running it on both.
 
 use crate::reference;
-use paxos_commit::{Answer, Fields, Plan, Refusal};
+use paxos_commit::{Answer, Ending, Fields, Plan, Refusal};
 
 /// W, Q, N and I.
 pub type Tables = [Vec<u8>; 4];
@@ -20,9 +20,12 @@ pub enum Call {
     Acceptor(Vec<u8>),
     /// It is lent this part of I.
     Leader(usize, usize, Vec<u8>),
+    Deliver(Vec<u8>),
+    Ending,
 }
 
-pub const CALLS: [&str; 7] = ["read", "write", "open", "step", "rm_step", "acceptor_step", "leader_step"];
+pub const CALLS: [&str; 9] =
+    ["read", "write", "open", "step", "rm_step", "acceptor_step", "leader_step", "deliver", "ending"];
 
 impl Call {
     pub fn number(&self) -> usize {
@@ -34,6 +37,8 @@ impl Call {
             Call::Rm(_) => 4,
             Call::Acceptor(_) => 5,
             Call::Leader(..) => 6,
+            Call::Deliver(_) => 7,
+            Call::Ending => 8,
         }
     }
 
@@ -48,6 +53,14 @@ impl Call {
         match self {
             Call::Step(event) | Call::Rm(event) | Call::Acceptor(event) | Call::Leader(_, _, event) => Some(event),
             _ => None,
+        }
+    }
+
+    /// What the call is lent beside the tables: an event, or what may be a message.
+    pub fn slice_mut(&mut self) -> Option<&mut Vec<u8>> {
+        match self {
+            Call::Read(bytes) | Call::Deliver(bytes) => Some(bytes),
+            call => call.event_mut(),
         }
     }
 }
@@ -141,6 +154,13 @@ impl Engine for Linked {
             Call::Leader(from, to, event) => {
                 code(paxos_commit::leader_step(plan, part(inboxes, *from, *to), network, event))
             }
+            Call::Deliver(bytes) => code(paxos_commit::deliver(plan, network, bytes).map(Answer::Slot)),
+            Call::Ending => match paxos_commit::ending(plan, states) {
+                Ok(Ending::Open) => 0,
+                Ok(Ending::Committed) => 1,
+                Ok(Ending::Aborted) => 2,
+                Err(refusal) => 65536 + Code::from(refusal.number()),
+            },
         }
     }
 }
@@ -219,6 +239,13 @@ impl Engine for Reference {
             Call::Leader(from, to, event) => {
                 reference_code(reference::leader_step(plan, part(inboxes, *from, *to), network, event))
             }
+            Call::Deliver(bytes) => reference_code(reference::deliver(plan, network, bytes).map(reference::Sent::Slot)),
+            Call::Ending => match reference::ending(plan, states) {
+                Ok(reference::Ending::Open) => 0,
+                Ok(reference::Ending::Committed) => 1,
+                Ok(reference::Ending::Aborted) => 2,
+                Err(number) => 65536 + Code::from(number),
+            },
         }
     }
 }

@@ -139,7 +139,7 @@ impl Generator {
     pub fn next(&mut self, tables: &Tables) -> Op {
         self.left -= 1;
         let mut op = Op::plain(self.plan, Call::Open);
-        op.call = match self.random.below(400) {
+        op.call = match self.random.below(440) {
             0..=15 => Call::Read(self.slice()),
             16..=31 => Call::Write(self.fields()),
             32 => Call::Open,
@@ -151,6 +151,14 @@ impl Generator {
             33..=40 => {
                 op.undone = true;
                 self.part(tables)
+            }
+            44..=73 => {
+                op.undone = self.random.percent(50);
+                Call::Deliver(self.came(&tables[N]))
+            }
+            74..=83 => {
+                self.states(&mut op, tables[W].len());
+                Call::Ending
             }
             _ => self.step(tables),
         };
@@ -248,6 +256,32 @@ impl Generator {
                 bytes
             }
             _ => bytes,
+        }
+    }
+
+    /// What comes to a host: a message that stands in its N, another, or what is mostly none.
+    fn came(&mut self, network: &[u8]) -> Vec<u8> {
+        match (self.random.below(10), used(network)) {
+            (0..=3, count @ 1..) => {
+                let slot = 6 * self.random.below(count);
+                let len = (1 + network[slot].count_ones() as usize).min(6);
+                network[slot..slot + len].to_vec()
+            }
+            (0..=6, _) => self.message(),
+            _ => self.slice(),
+        }
+    }
+
+    /// For the ending mostly a W whose weights are all at one state, or all but one.
+    fn states(&mut self, op: &mut Op, len: usize) {
+        if len == 0 || self.random.percent(20) {
+            return;
+        }
+        let state = self.random.of(&[0, 1, 2, 2, 2, 3, 3, 3]);
+        op.bytes.extend((0..len).map(|at| (W, at, state)));
+        if self.random.percent(30) {
+            let at = self.random.below(len);
+            op.bytes.push((W, at, self.random.of(&[0, 1, 2, 3, 3, 4, 130, 255])));
         }
     }
 

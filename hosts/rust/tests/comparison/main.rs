@@ -23,19 +23,23 @@ fn number(variable: &str, otherwise: u64) -> u64 {
     }
 }
 
-/// How often each call answered what: acceptances by kind (0 for calls without an event), and refusals.
+/// How often each call answered what: acceptances by kind (for the ending by its number, 0 for other calls without an
+/// event), and refusals.
 #[derive(Default)]
 struct Seen {
     calls: usize,
     histories: usize,
     longest: usize,
-    accepted: [[usize; 9]; 7],
-    refused: [[usize; 18]; 7],
+    accepted: [[usize; 9]; CALLS.len()],
+    refused: [[usize; 18]; CALLS.len()],
 }
 
 impl Seen {
     fn count(&mut self, call: &Call, code: Code) {
-        let kind = call.event().and_then(|event| event.first()).map_or(0, |&kind| usize::from(kind));
+        let kind = match call {
+            Call::Ending => code as usize,
+            call => call.event().and_then(|event| event.first()).map_or(0, |&kind| usize::from(kind)),
+        };
         self.calls += 1;
         match refusal(call, code) {
             0 => self.accepted[call.number()][kind] += 1,
@@ -66,8 +70,8 @@ fn compare(engines: [&dyn Engine; 2], seed: u64, calls: usize) -> (Seen, Option<
     (seen, None)
 }
 
-/// What document 01 lets each call answer: kinds that it accepts, and refusals.
-const POSSIBLE: [(&[usize], &[usize]); 7] = [
+/// What each call may answer: kinds that it accepts, and refusals.
+const POSSIBLE: [(&[usize], &[usize]); CALLS.len()] = [
     (&[0], &[1, 15, 16, 17]),
     (&[0], &[1, 15, 17]),
     (&[0], &[1, 2]),
@@ -75,6 +79,8 @@ const POSSIBLE: [(&[usize], &[usize]); 7] = [
     (&[0, 1, 2], &[1, 2, 3, 5, 7, 8, 9, 11, 12, 13]),
     (&[3], &[1, 2, 4, 5, 7, 8, 9, 12, 13]),
     (&[4, 5, 6, 7, 8], &[1, 2, 5, 6, 7, 8, 9, 10, 12, 13, 14]),
+    (&[0], &[1, 2, 5, 13, 15, 16, 17]),
+    (&[0, 1, 2], &[1, 2, 3]),
 ];
 
 #[test]
@@ -174,4 +180,22 @@ fn planted_fault_in_the_reader() {
     assert_eq!(case.ops.len(), 1);
     assert_eq!(case.ops[0].call, Call::Read(vec![0x1B, 0, 0, 0, 3]));
     assert!(case.tables.iter().all(|table| table.len() <= 6));
+}
+
+#[test]
+fn planted_fault_delivers_a_message_that_stands_there_again() {
+    let (case, _) = found(|plan, tables, call| match call {
+        Call::Deliver(bytes) => {
+            let room = tables[N].chunks_exact(6).position(|slot| slot[0] == 0)?;
+            let code = Reference.call(plan, tables, call);
+            if code < room as Code {
+                tables[N][6 * room..6 * room + bytes.len()].copy_from_slice(bytes);
+            }
+            Some(code)
+        }
+        _ => None,
+    });
+    assert_eq!(case.ops.len(), 1);
+    assert_eq!(case.ops[0].plan, Plan { rms: 1, acceptors: 1, leaders: 1 });
+    assert_eq!(case.tables[N].len(), 12);
 }

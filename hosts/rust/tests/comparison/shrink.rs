@@ -174,18 +174,16 @@ impl Shrinker<'_> {
             }
         }
         let last = self.case.ops.len() - 1;
-        let length = |call: &Call| match call {
-            Call::Read(bytes) => bytes.len(),
+        let length = match &mut self.case.ops[last].call {
             Call::Write(fields) => fields.len(),
-            call => call.event().map_or(0, Vec::len),
+            call => call.slice_mut().map_or(0, |bytes| bytes.len()),
         };
-        for at in 0..length(&self.case.ops[last].call) {
+        for at in 0..length {
             for zero in [true, false] {
                 let mut case = self.case.clone();
                 let byte = match &mut case.ops[last].call {
-                    Call::Read(bytes) => bytes.get_mut(at),
                     Call::Write(fields) => fields.get_mut(at),
-                    call => call.event_mut().and_then(|event| event.get_mut(at)),
+                    call => call.slice_mut().and_then(|bytes| bytes.get_mut(at)),
                 };
                 let Some(byte) = byte.filter(|byte| **byte > 0) else { break };
                 *byte = if zero { 0 } else { *byte - 1 };
@@ -195,10 +193,7 @@ impl Shrinker<'_> {
         // A shorter slice.
         loop {
             let mut case = self.case.clone();
-            let popped = match &mut case.ops[last].call {
-                Call::Read(bytes) => bytes.pop(),
-                call => call.event_mut().and_then(Vec::pop),
-            };
+            let popped = case.ops[last].call.slice_mut().and_then(Vec::pop);
             if popped.is_none() || !self.take(case) {
                 return;
             }
@@ -256,9 +251,9 @@ pub fn told(case: &Case, mismatch: &Mismatch) -> String {
         let Plan { rms, acceptors, leaders } = op.plan;
         let _ = write!(out, "  call {at}: {} with n = {rms}, A = {acceptors}, L = {leaders}", CALLS[op.call.number()]);
         let _ = match &op.call {
-            Call::Read(bytes) => writeln!(out, ", bytes {}", hex(bytes)),
+            Call::Read(bytes) | Call::Deliver(bytes) => writeln!(out, ", bytes {}", hex(bytes)),
             Call::Write(fields) => writeln!(out, ", map, ins, acc, mbal, bal, val {}", hex(fields)),
-            Call::Open => writeln!(out),
+            Call::Open | Call::Ending => writeln!(out),
             Call::Leader(from, to, event) => writeln!(out, ", bytes {from} to {to} of I, event {}", hex(event)),
             call => writeln!(out, ", event {}", hex(call.event().map_or(&[], Vec::as_slice))),
         };

@@ -1,7 +1,8 @@
 //! Document 01 in Rust by hand, for the tests and the benchmark of the crate
 //! above; it is no part of it. It was written from the document alone, by
-//! someone who had not seen the proved source. The tests use its public
-//! functions only.
+//! someone who had not seen the proved source; the delivery and the ending,
+//! which the document has not as calls, from their description (see `host`).
+//! The tests use its public functions only.
 //!
 //! A record is four byte tables, lent to every call:
 //!
@@ -16,6 +17,7 @@
 #![allow(dead_code, unused_imports)]
 
 mod acceptor;
+mod host;
 mod leader;
 mod message;
 mod record;
@@ -24,6 +26,7 @@ mod slots;
 mod weight;
 
 pub use acceptor::acceptor_step;
+pub use host::{Ending, deliver, ending};
 pub use leader::leader_step;
 pub use message::{LENGTHS, Message, Vote, read, write};
 pub use record::{event, open};

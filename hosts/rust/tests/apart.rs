@@ -1,0 +1,266 @@
+//! The lists of happenings of the crate `apart` on the linked calls: the one that ends committed (Examples.antt), and
+//! for each hypothesis those that fail it alone and break the claim (Needed.antt); with one more, for a leader's inbox.
+
+use paxos_commit::*;
+use std::collections::HashMap;
+
+#[derive(Clone, Copy, Debug, PartialEq, Eq, Hash)]
+enum Role {
+    Rm,
+    Acceptor,
+    Leader,
+}
+use Role::*;
+
+#[derive(Clone, Debug, PartialEq, Eq)]
+struct Host {
+    table: Vec<u8>,
+    network: Vec<u8>,
+}
+
+/// What happens to host k of a role.
+#[derive(Clone, Debug)]
+enum Happening {
+    Call(Role, u8, [u8; 4]),
+    Delivery(Role, u8, Vec<u8>),
+    Restart(Role, u8, Host),
+}
+
+/// The hosts, and every message that was sent.
+struct System {
+    plan: Plan,
+    hosts: HashMap<(Role, u8), Host>,
+    wire: Vec<Message>,
+}
+
+impl System {
+    /// Zeros: the lengths of each role's table and N.
+    fn fresh(plan: Plan, lengths: [(Role, u8, usize, usize); 3]) -> System {
+        let hosts = lengths.into_iter().flat_map(|(role, count, table, network)| {
+            (0..count).map(move |k| ((role, k), Host { table: vec![0; table], network: vec![0; network] }))
+        });
+        System { plan, hosts: hosts.collect(), wire: Vec::new() }
+    }
+
+    fn messages(&self, network: &[u8]) -> Vec<Message> {
+        (0..1024).map_while(|slot| Message::in_slot(self.plan, network, slot).ok()).collect()
+    }
+
+    /// The hypotheses that it fails.
+    fn failed(&self, happening: &Happening) -> Vec<&'static str> {
+        let sent = |messages: &[Message]| messages.iter().all(|message| self.wire.contains(message));
+        let mut failed = Vec::new();
+        match happening {
+            Happening::Call(_, k, event) => failed.extend((event[1] != *k).then_some("OwnNumber")),
+            Happening::Delivery(_, _, bytes) => {
+                let read: Vec<_> = Message::read(self.plan, bytes).into_iter().collect();
+                failed.extend((!sent(&read)).then_some("NotForged"));
+            }
+            Happening::Restart(role, k, host) => {
+                failed.extend((host.table != self.hosts[&(*role, *k)].table).then_some("TableKept"));
+                failed.extend((!sent(&self.messages(&host.network))).then_some("NotForged"));
+            }
+        }
+        failed
+    }
+
+    fn happen(&mut self, happening: &Happening) -> Result<Answer, Refusal> {
+        let (Happening::Call(role, k, _) | Happening::Delivery(role, k, _) | Happening::Restart(role, k, _)) =
+            happening;
+        let host = self.hosts.get_mut(&(*role, *k)).unwrap();
+        match happening {
+            Happening::Call(role, _, event) => {
+                let step = match role {
+                    Rm => rm_step,
+                    Acceptor => acceptor_step,
+                    Leader => leader_step,
+                };
+                let answer = step(self.plan, &mut host.table, &mut host.network, event);
+                if let Ok(Answer::Slot(slot)) = answer {
+                    self.wire.push(Message::in_slot(self.plan, &host.network, slot).unwrap());
+                }
+                answer
+            }
+            Happening::Delivery(_, _, bytes) => deliver(self.plan, &mut host.network, bytes).map(Answer::Slot),
+            Happening::Restart(_, _, new) => {
+                *host = new.clone();
+                Ok(Answer::Quiet)
+            }
+        }
+    }
+
+    /// The weights' states: byte i of weight i's own W.
+    fn row(&self) -> Vec<u8> {
+        (0..self.plan.rms).map(|i| self.hosts[&(Rm, i)].table[usize::from(i)]).collect()
+    }
+}
+
+/// Host k makes an event with its own number.
+fn act(role: Role, k: u8, kind: u8, high: u8, low: u8) -> Happening {
+    Happening::Call(role, k, [kind, k, high, low])
+}
+
+fn to(role: Role, k: u8, bytes: &[u8]) -> Happening {
+    Happening::Delivery(role, k, bytes.to_vec())
+}
+
+fn restart(role: Role, k: u8, table: &[u8], network: &[u8]) -> Happening {
+    Happening::Restart(role, k, Host { table: table.to_vec(), network: network.to_vec() })
+}
+
+#[test]
+fn the_list_that_commits() {
+    let plan = Plan { rms: 1, acceptors: 1, leaders: 1 };
+    let mut system = System::fresh(plan, [(Rm, 1, 1, 12), (Acceptor, 1, 3, 18), (Leader, 1, 12, 12)]);
+    let (slot, quiet) = (|slot| Ok(Answer::Slot(slot)), Ok(Answer::Quiet));
+    for (happening, answer) in [
+        (act(Rm, 0, 0, 0, 0), slot(0)),
+        (to(Acceptor, 0, &[0x19, 0, 0, 1]), slot(0)),
+        (to(Acceptor, 0, &[0x19, 0, 0, 1]), slot(0)),
+        (act(Acceptor, 0, 3, 0, 0), slot(1)),
+        (to(Leader, 0, &[0x09, 0]), Err(Refusal::WrongLength)),
+        (to(Leader, 0, &[0x1B, 0, 0, 0, 1]), slot(0)),
+        (act(Leader, 0, 4, 0, 0), quiet),
+        (act(Leader, 0, 7, 0, 0), slot(1)),
+        (restart(Leader, 0, &[0x1B, 0, 0, 0, 1, 0, 0, 0, 0, 0, 0, 0], &[0; 6]), quiet),
+        (to(Rm, 0, &[0x10, 1]), slot(1)),
+        (act(Rm, 0, 2, 0, 1), quiet),
+    ] {
+        assert_eq!(system.failed(&happening), [""; 0], "{happening:?}");
+        assert_eq!(system.happen(&happening), answer, "{happening:?}");
+    }
+    assert_eq!(system.row(), [2]);
+    assert_eq!(system.wire.len(), 3);
+}
+
+/// By the 2a of both weights, for prepared at ballot 0: the acceptor votes, the leader decides, and Commit comes to
+/// weight 1.
+fn deciding() -> Vec<Happening> {
+    vec![
+        to(Acceptor, 0, &[0x19, 0, 0, 1]),
+        act(Acceptor, 0, 3, 0, 0),
+        to(Acceptor, 0, &[0x19, 1, 0, 1]),
+        act(Acceptor, 0, 3, 0, 2),
+        to(Leader, 0, &[0x1B, 0, 0, 0, 1]),
+        act(Leader, 0, 4, 0, 0),
+        to(Leader, 0, &[0x1B, 1, 0, 0, 1]),
+        act(Leader, 0, 4, 0, 1),
+        act(Leader, 0, 7, 0, 0),
+        to(Rm, 1, &[0x10, 1]),
+    ]
+}
+
+/// One happening fails one hypothesis, no other fails any, and weight 0 ends aborted, weight 1 committed.
+fn breaks(hypothesis: &str, before: Vec<Happening>, one: Happening, rest: Vec<Happening>) {
+    let plan = Plan { rms: 2, acceptors: 1, leaders: 1 };
+    let mut system = System::fresh(plan, [(Rm, 2, 2, 18), (Acceptor, 1, 6, 36), (Leader, 1, 30, 48)]);
+    let at = before.len();
+    for (number, happening) in before.into_iter().chain([one]).chain(rest).enumerate() {
+        let failed = system.failed(&happening);
+        assert_eq!(failed, if number == at { vec![hypothesis] } else { vec![] }, "{number}: {happening:?}");
+        assert!(system.happen(&happening).is_ok(), "{number}: {happening:?}");
+    }
+    assert_eq!(system.row(), [3, 2]);
+}
+
+#[test]
+fn own_number_needed() {
+    let rest = [vec![act(Rm, 1, 0, 0, 0), act(Rm, 0, 1, 0, 0)], deciding(), vec![act(Rm, 1, 2, 0, 2)]].concat();
+    breaks("OwnNumber", vec![], Happening::Call(Rm, 1, [0, 0, 0, 0]), rest);
+}
+
+#[test]
+fn not_forged_needed() {
+    let before = vec![act(Rm, 0, 1, 0, 0), act(Rm, 1, 0, 0, 0)];
+    breaks("NotForged", before.clone(), to(Rm, 1, &[0x10, 1]), vec![act(Rm, 1, 2, 0, 1)]);
+    let mut network = [0; 18];
+    network[..2].copy_from_slice(&[0x10, 1]);
+    breaks("NotForged", before, restart(Rm, 1, &[0, 1], &network), vec![act(Rm, 1, 2, 0, 0)]);
+}
+
+#[test]
+fn states_kept_needed() {
+    let mut network = [0; 18];
+    network[..4].copy_from_slice(&[0x19, 0, 0, 1]);
+    let rest = [vec![act(Rm, 1, 0, 0, 0), act(Rm, 0, 1, 0, 0)], deciding(), vec![act(Rm, 1, 2, 0, 1)]].concat();
+    breaks("TableKept", vec![act(Rm, 0, 0, 0, 0)], restart(Rm, 0, &[0, 0], &network), rest);
+}
+
+#[test]
+fn votes_kept_needed() {
+    let before = [vec![act(Rm, 0, 0, 0, 0), act(Rm, 1, 0, 0, 0)], deciding(), vec![act(Rm, 1, 2, 0, 1)]].concat();
+    let rest = vec![
+        act(Leader, 0, 5, 0, 1),
+        to(Acceptor, 0, &[0x09, 0, 1]),
+        act(Acceptor, 0, 3, 0, 0),
+        to(Leader, 0, &[0x07, 0, 0, 1]),
+        act(Leader, 0, 4, 0, 4),
+        act(Leader, 0, 6, 0, 1),
+        to(Acceptor, 0, &[0x19, 0, 1, 2]),
+        act(Acceptor, 0, 3, 0, 2),
+        to(Leader, 0, &[0x1B, 0, 0, 1, 2]),
+        act(Leader, 0, 4, 0, 6),
+        act(Leader, 0, 8, 0, 0),
+        to(Rm, 0, &[0x10, 2]),
+        act(Rm, 0, 2, 0, 1),
+    ];
+    breaks("TableKept", before, restart(Acceptor, 0, &[0; 6], &[0; 36]), rest);
+}
+
+/// Of three acceptors, acceptor 0 has voted for weight 0's prepared. By its report and acceptor 1's, the leader proposes
+/// prepared at ballot 1, which these two vote for, and weight 1 commits. The leader loses its inbox, hears of acceptors 1
+/// and 2, which report no vote, and proposes aborted at ballot 1.
+#[test]
+fn inbox_kept_needed() {
+    let plan = Plan { rms: 2, acceptors: 3, leaders: 1 };
+    let network = slots_len(32);
+    let mut system = System::fresh(plan, [(Rm, 2, 2, network), (Acceptor, 3, 18, network), (Leader, 1, 120, network)]);
+    let genuine = |system: &mut System, happening: Happening| {
+        assert_eq!(system.failed(&happening), [""; 0], "{happening:?}");
+        match system.happen(&happening) {
+            Ok(Answer::Slot(slot)) => slot,
+            Ok(Answer::Quiet) => 0,
+            Err(refusal) => panic!("{happening:?}: {refusal}"),
+        }
+    };
+    // The bytes come to the host, which makes an event with their slot.
+    let take = |system: &mut System, role, k, kind, bytes: &[u8]| {
+        let [high, low] = genuine(system, to(role, k, bytes)).to_be_bytes();
+        genuine(system, act(role, k, kind, high, low));
+    };
+    let s = &mut system;
+    genuine(s, act(Rm, 0, 0, 0, 0));
+    genuine(s, act(Rm, 1, 0, 0, 0));
+    take(s, Acceptor, 0, 3, &[0x19, 0, 0, 1]);
+    take(s, Acceptor, 0, 3, &[0x19, 1, 0, 1]);
+    take(s, Acceptor, 1, 3, &[0x19, 1, 0, 1]);
+    genuine(s, act(Leader, 0, 5, 0, 1));
+    for acceptor in 0..3 {
+        take(s, Acceptor, acceptor, 3, &[0x09, 0, 1]);
+    }
+    take(s, Leader, 0, 4, &[0x1F, 0, 0, 1, 0, 1]);
+    take(s, Leader, 0, 4, &[0x07, 0, 1, 1]);
+    genuine(s, act(Leader, 0, 6, 0, 1));
+    for acceptor in 0..2 {
+        take(s, Acceptor, acceptor, 3, &[0x19, 0, 1, 1]);
+        take(s, Leader, 0, 4, &[0x1B, 0, acceptor, 1, 1]);
+        take(s, Leader, 0, 4, &[0x1B, 1, acceptor, 0, 1]);
+    }
+    genuine(s, act(Leader, 0, 7, 0, 0));
+    take(s, Rm, 1, 2, &[0x10, 1]);
+
+    let lost = restart(Leader, 0, &[0; 120], &s.hosts[&(Leader, 0)].network);
+    assert_eq!(s.failed(&lost), ["TableKept"]);
+    assert_eq!(s.happen(&lost), Ok(Answer::Quiet));
+
+    take(s, Leader, 0, 4, &[0x07, 0, 1, 1]);
+    take(s, Leader, 0, 4, &[0x07, 0, 2, 1]);
+    genuine(s, act(Leader, 0, 6, 0, 1));
+    for acceptor in 1..3 {
+        take(s, Acceptor, acceptor, 3, &[0x19, 0, 1, 2]);
+        take(s, Leader, 0, 4, &[0x1B, 0, acceptor, 1, 2]);
+    }
+    genuine(s, act(Leader, 0, 8, 0, 0));
+    take(s, Rm, 0, 2, &[0x10, 2]);
+    assert_eq!(s.row(), [3, 2]);
+}
