@@ -1,8 +1,7 @@
--- The reader, the writer and a delivery for other languages: what they are given and answer, as numbers.
+-- The reader and the writer for other languages: what they are given and answer, as numbers.
 --     fieldsOf, messageOf         a message as its map and all five fields, and back
 --     readCode                    the reader's answer: byte 0 the refusal or 0, bytes 1 to 6 the map and the fields
 --     hostWrite, writtenCode      the writer by map and fields; its answer: byte 0 the number, 1 the length, 2 to 7 the bytes
---     HostDelivery, hostDelivery, hostDeliveryOf     a delivery: the number of its answer, and N
 -- Their laws are in Code/Laws.antt. Assumes nothing.
 pub mod Laws
 use Prim.Native.Nat.{ℕ}
@@ -18,8 +17,7 @@ use Rattle.message.specs.declared.Written.{Written}
 use Rattle.message.specs.Outcome.{Outcome, accepted, refused, refuseIf}
 use Rattle.message.specs.Plan.{isPlan}
 use Rattle.message.specs.Codec.{written, writeMessage}
-use Rattle.deliver.specs.Deliver.{Delivery}
-use Rattle.host_code.specs.Code.{answerCode, packed}
+use Rattle.host_code.specs.Code.{packed}
 
 -- a 1b's map and fields: 07 without a vote, 1F with one
 abbrev pub fieldsOf1b : ℕ → ℕ → ℕ → Vote → List ℕ
@@ -63,14 +61,3 @@ hostWrite p map ins acc mbal bal val = writeOutcome p (refuseIf (not (isPlan p))
 -- byte 0 the number, byte 1 the length, then the six bytes
 unfoldable pub writtenCode : Written → ℕ
 writtenCode w = packed (w .number ∷ w .len ∷ w .bytes)
-
-pub record HostDelivery : Type 0 where
-  pub code : ℕ
-  pub network : List ℕ
-
--- the number, and N at exit
-abbrev pub hostDelivery : ℕ → List ℕ → HostDelivery
-hostDelivery code network = record { code = code; network = network }
-
-abbrev pub hostDeliveryOf : Delivery → HostDelivery
-hostDeliveryOf d = hostDelivery (answerCode (d .answer)) (d .network)

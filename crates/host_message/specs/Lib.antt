@@ -1,5 +1,5 @@
--- The reader, the writer and a delivery for other languages.
+-- The reader and the writer for other languages.
 --     Code       what they are given and answer, as numbers
---     Theorems   what the numbers say: when the reader's is a message's, that none stands for two messages, and a delivery's
+--     Theorems   when the reader's number is a message's, and that no number stands for two messages
 pub mod Code
 pub mod Theorems

@@ -1,21 +1,19 @@
--- What the reader's number says, that the writer takes the fields that the reader gives, and what a delivery's number says.
+-- What the reader's number says, and that the writer takes the fields that the reader gives.
 --     message-of-zero       byte 0 of the reader's number is 0 exactly for a message
 --     one-message           no number stands for two messages; a message's fields are bytes
 --     messageOf-fieldsOf    the map and the fields of a message are, for the writer, that message
 --     read-examples, write-examples, other-examples     numbers that the reader and the writer give, computed: every field has a value of its own
---     delivery-means        a slot is its number, refusal k 65536 + k, and N stands beside it
---     deliver-examples      a message put into N, one that stands there, no room, and a slice that is no message, computed
 -- Assumes nothing.
-use Prim.Native.Nat.{ℕ, _+_, _%_, _<_}
+use Prim.Native.Nat.{ℕ, _%_, _<_}
 use mathlib.Core.Bool.{true}
 use mathlib.Core.List.{List, [], _∷_}
 use mathlib.Core.Logic.{_↔_}
 use mathlib.Core.Path.{_≡_, refl, sym, _∙_, ap}
 use native.Mathlib.Omega.{arith}
-use lib.ListN.{length, getD, replicate}
+use lib.ListN.{length, getD}
 use Rattle.message.specs.declared.Plan.{Plan}
 use Rattle.message.specs.declared.Message.{Message}
-use Rattle.message.specs.Outcome.{Outcome, accepted, refused, andThen}
+use Rattle.message.specs.Outcome.{Outcome, accepted, refused}
 use Rattle.message.specs.Outcome.Laws.{accepted-inj, accepted-not-refused}
 use Rattle.message.specs.Outcome.{refuseIf}
 use Rattle.message.specs.Plan.{isCount, isPlan}
@@ -24,15 +22,9 @@ use Rattle.message.specs.Form.Laws.{messageCases}
 use Rattle.message.specs.Codec.{readMessage, writeMessage}
 use Rattle.message.specs.Rows.{Applies, here, below}
 use Rattle.message.specs.Theorems.{readerRows, reader-answers}
-use Rattle.slots.specs.All.{all}
-use Rattle.slots.specs.Table.{isTableLength, slotsUpTo, slots, isZero, readSlot, readTable, allUnused, isOrdered, isTable, usedMessages, messages, sameBytes, storeAt}
-use Rattle.slots.specs.Send.{sameMessage, placeFrom, placeIn}
-use Rattle.change.specs.declared.Sent.the-variants.{Slot}
-use Rattle.deliver.specs.Deliver.{deliverJudged, deliverStep}
 use Rattle.host_code.specs.Code.{planOf, areBytes}
 use Rattle.host_code.specs.Code.Laws.{packed-first, packed-inj}
-use Rattle.host_code.specs.Theorems.{code-means}
-use Rattle.host_message.specs.Code.{fieldsOf, messageOf, readCode, hostWrite, writtenCode, hostDelivery, hostDeliveryOf}
+use Rattle.host_message.specs.Code.{fieldsOf, messageOf, readCode, hostWrite, writtenCode}
 
 pub message-of-zero : (p : Plan) (bytes : List ℕ) → (readCode (readMessage p bytes) % 256 ≡ 0) ↔ ((m : Message) × (readMessage p bytes ≡ accepted m))
 message-of-zero p bytes = go (readMessage p bytes) refl
@@ -94,22 +86,3 @@ pub other-examples : (readCode (readMessage (planOf 16 7 4) (0x09 ∷ 5 ∷ 8 �
 unfolding readMessage refuseIf isPlan isCount mapLength mapLengths decode fieldsMessage isInRange isVote isValue hostWrite messageOf writtenCode
     writeMessage bytesOf bytesOf1b messageLength slotOf
 other-examples = (refl, refl, refl, refl, refl, refl)
-
-pub delivery-means : (k : ℕ) (network : List ℕ)
-    → (hostDelivery k network .code ≡ k)
-    × (hostDelivery k network .network ≡ network)
-    × (k < 1024 → hostDeliveryOf (record { answer = accepted (Slot k); network = network }) ≡ hostDelivery k network)
-    × (hostDeliveryOf (record { answer = refused k; network = network }) ≡ hostDelivery (65536 + k) network)
-delivery-means k network = (refl, refl, λ below. ap (λ (n : ℕ). hostDelivery n network) (code-means .0 k below), refl)
-
--- a Commit into an N of two slots with a 2a in it, and again; a 1a into a full one; a byte that is no map
-pub deliver-examples :
-    (hostDeliveryOf (deliverStep (planOf 1 1 1) (0x19 ∷ 0 ∷ 0 ∷ 1 ∷ replicate 8 0) (0x10 ∷ 1 ∷ []))
-    ≡ hostDelivery 1 (0x19 ∷ 0 ∷ 0 ∷ 1 ∷ 0 ∷ 0 ∷ 0x10 ∷ 1 ∷ replicate 4 0))
-    × (hostDeliveryOf (deliverStep (planOf 1 1 1) (0x10 ∷ 1 ∷ replicate 10 0) (0x10 ∷ 1 ∷ [])) ≡ hostDelivery 0 (0x10 ∷ 1 ∷ replicate 10 0))
-    × (hostDeliveryOf (deliverStep (planOf 1 1 1) (0x10 ∷ 1 ∷ replicate 4 0) (0x09 ∷ 0 ∷ 1 ∷ [])) ≡ hostDelivery 65549 (0x10 ∷ 1 ∷ replicate 4 0))
-    × (hostDeliveryOf (deliverStep (planOf 1 1 1) (replicate 6 0) (0x11 ∷ [])) ≡ hostDelivery 65551 (replicate 6 0))
-unfolding deliverStep deliverJudged readMessage andThen refuseIf isPlan isCount mapLength mapLengths decode fieldsMessage isInRange isVote isValue bytesOf bytesOf1b
-    messageLength slotOf all isTableLength slotsUpTo slots isZero readSlot readTable allUnused isOrdered isTable usedMessages messages sameBytes storeAt
-    sameMessage placeFrom placeIn
-deliver-examples = (refl, refl, refl, refl)

@@ -1,8 +1,7 @@
-// Messages for other languages: numbers and byte slices in, one number out.
+// The reader and the writer for other languages: numbers and a byte slice in, one number out.
 //
-//     paxos_commit_read        the message that a slice is
-//     paxos_commit_write       the byte form of a message, given by its map and its fields
-//     paxos_commit_deliver     what came to a host, put into its N
+//     paxos_commit_read      the message that a slice is
+//     paxos_commit_write     the byte form of a message, given by its map and its fields
 //
 // What the numbers mean stands in specs/Code.antt.
 ghost use Prim.Native.Nat.{_<_};
@@ -11,9 +10,8 @@ ghost use mathlib.Core.Path.{_≡_};
 ghost use lib.ListN.{length, getD};
 ghost use Rattle.message.specs.Form.{mapLength, decode};
 ghost use Rattle.message.specs.Codec.{readOutcome, readMessage};
-ghost use Rattle.deliver.specs.Deliver.{deliverStep};
 ghost use Rattle.host_code.specs.Code.{planOf, packed};
-ghost use Rattle.host_message.specs.Code.{fieldsOf, messageOf, readCode, hostWrite, writtenCode, hostDelivery, hostDeliveryOf};
+ghost use Rattle.host_message.specs.Code.{fieldsOf, messageOf, readCode, hostWrite, writtenCode};
 use host_code::pack;
 use message::Message;
 use message::Plan;
@@ -156,25 +154,4 @@ pub extern "C" fn paxos_commit_write(
         return codec::read_refusal(answer) as u64;
     };
     written_code(codec::write_message(plan, m))
-}
-
-// What came to a host: the message that the bytes are, put into the first unused slot of N (`network`) unless it stands there. Accepted:
-// the first slot where it stands. Refused: 65536 and the number, which is 1, 2, 5, 13, 15, 16 or 17; then no byte changes.
-#[no_mangle]
-pub extern "C" fn paxos_commit_deliver(
-    rms: u8,
-    acceptors: u8,
-    leaders: u8,
-    network: &mut [u8],
-    bytes: &[u8],
-) -> u32
-    ensures { λ r. ⌜ hostDelivery r (now (network .exit)) ≡
-        hostDeliveryOf (deliverStep (planOf rms acceptors leaders) (now (network .entry)) (now (bytes .entry))) ⌝ }
-{
-    let plan = Plan {
-        rms,
-        acceptors,
-        leaders,
-    };
-    host_code::answer_code(deliver::deliver(plan, network, bytes))
 }

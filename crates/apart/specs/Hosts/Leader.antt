@@ -25,7 +25,7 @@ use Rattle.tcommit.specs.TCommit.Laws.{except-cases}
 use Rattle.paxos_commit.specs.PaxosCommit.{Val, Message, AState, phase2a, Send, PCNext}
 use Rattle.paxos_commit.specs.PaxosCommit.Safety.Leader.{phase2a-of-part, decide-commit-of-part, decide-abort-of-part}
 use Rattle.leader.specs.Leader.{owns, leaderStep}
-use Rattle.leader.specs.Leader.Laws.{one-owner, owns-above}
+use Rattle.phase2a.specs.Phase2a.Laws.{one-owner, owns-above}
 use Rattle.matching.specs.Reading.{isRM, isAcceptor, isMajoritySet, messageOf, setOf}
 use Rattle.matching.specs.Call.{Accepted, Sends, Stores}
 use Rattle.matching.specs.Call.Laws.{messageAt-cases, unused-past, member-at}

@@ -1,11 +1,10 @@
--- The writer's answer by cases, and a delivery's.
+-- The writer's answer by cases.
 --     hostWrite-plan, -map, -message     a plan out of range, a map of no message, and what document 01's writer answers
 --     writeMessage-len                   the length is a byte
---     delivery-coded                     a delivery whose answer became a number
 -- Assumes nothing.
 use Prim.Native.Nat.{ℕ, _<_}
 use mathlib.Core.Bool.{Bool, true, false}
-use mathlib.Core.Path.{_≡_, refl, _∙_, ap}
+use mathlib.Core.Path.{_≡_, refl}
 use native.Mathlib.Omega.{arith}
 use Rattle.message.specs.declared.Plan.{Plan}
 use Rattle.message.specs.declared.Message.{Message}
@@ -15,9 +14,7 @@ use Rattle.message.specs.Form.{isInRange}
 use Rattle.message.specs.Form.Laws.{messageLength-bounds}
 use Rattle.message.specs.Codec.{writeMessage}
 use Rattle.message.specs.Codec.Laws.{writeMessage-plan, writeMessage-range, writeMessage-accepted}
-use Rattle.deliver.specs.Deliver.{Delivery}
-use Rattle.host_code.specs.Code.{answerCode}
-use Rattle.host_message.specs.Code.{messageOf, hostWrite, writtenCode, hostDelivery, hostDeliveryOf}
+use Rattle.host_message.specs.Code.{messageOf, hostWrite, writtenCode}
 
 module _ (p : Plan) (map ins acc mbal bal val : ℕ) where
   pub hostWrite-plan : isPlan p ≡ false → 1 ≡ writtenCode (hostWrite p map ins acc mbal bal val)
@@ -40,6 +37,3 @@ writeMessage-len p m = go (isPlan p) (isInRange p m) refl refl
     go false range h i = rw (writeMessage-plan p m h) (omega arith)
     go true false h i = rw (writeMessage-range p m h i) (omega arith)
     go true true h i = rw (writeMessage-accepted p m h i) (omega (arith, messageLength-bounds p m .1))
-
-pub delivery-coded : {d e : Delivery} → d ≡ e → {code : ℕ} → code ≡ answerCode (d .answer) → hostDelivery code (d .network) ≡ hostDeliveryOf e
-delivery-coded {d} is h = ap (λ (number : ℕ). hostDelivery number (d .network)) h ∙ ap hostDeliveryOf is

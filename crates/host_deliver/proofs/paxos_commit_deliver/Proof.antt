@@ -1,8 +1,8 @@
--- `host_message::paxos_commit_deliver` meets its contract: the delivery, and the number of its answer. Assumes nothing.
+-- `host_deliver::paxos_commit_deliver` meets its contract: the delivery, and the number of its answer. Assumes nothing.
 use borrow.Author.Needs.{needs}
-use Rattle.host_message.specs.Code.Laws.{delivery-coded}
-use Rattle.host_message.proofs.paxos_commit_deliver.Statement.{statement}
-use Rattle.host_message.proofs.paxos_commit_deliver.Tie as tie
+use Rattle.host_deliver.specs.Code.Laws.{delivery-coded}
+use Rattle.host_deliver.proofs.paxos_commit_deliver.Statement.{statement}
+use Rattle.host_deliver.proofs.paxos_commit_deliver.Tie as tie
 
 same-length : tie.Need-same-length
 same-length c = search needs

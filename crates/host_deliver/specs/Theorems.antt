@@ -1,0 +1,39 @@
+-- What a delivery's number says.
+--     delivery-means        a slot is its number, refusal k 65536 + k, and N stands beside it
+--     deliver-examples      a message put into N, one that stands there, no room, and a slice that is no message, computed
+-- Assumes nothing.
+use Prim.Native.Nat.{ℕ, _+_, _<_}
+use mathlib.Core.List.{List, [], _∷_}
+use mathlib.Core.Path.{_≡_, refl, ap}
+use lib.ListN.{replicate}
+use Rattle.message.specs.Outcome.{accepted, refused, andThen, refuseIf}
+use Rattle.message.specs.Plan.{isCount, isPlan}
+use Rattle.message.specs.Form.{isValue, isVote, isInRange, bytesOf1b, bytesOf, messageLength, slotOf, mapLengths, mapLength, fieldsMessage, decode}
+use Rattle.message.specs.Codec.{readMessage}
+use Rattle.slots.specs.All.{all}
+use Rattle.slots.specs.Table.{isTableLength, slotsUpTo, slots, isZero, readSlot, readTable, allUnused, isOrdered, isTable, usedMessages, messages, sameBytes, storeAt}
+use Rattle.slots.specs.Send.{sameMessage, placeFrom, placeIn}
+use Rattle.change.specs.declared.Sent.the-variants.{Slot}
+use Rattle.deliver.specs.Deliver.{deliverJudged, deliverStep}
+use Rattle.host_code.specs.Code.{planOf}
+use Rattle.host_code.specs.Theorems.{code-means}
+use Rattle.host_deliver.specs.Code.{hostDelivery, hostDeliveryOf}
+
+pub delivery-means : (k : ℕ) (network : List ℕ)
+    → (hostDelivery k network .code ≡ k)
+    × (hostDelivery k network .network ≡ network)
+    × (k < 1024 → hostDeliveryOf (record { answer = accepted (Slot k); network = network }) ≡ hostDelivery k network)
+    × (hostDeliveryOf (record { answer = refused k; network = network }) ≡ hostDelivery (65536 + k) network)
+delivery-means k network = (refl, refl, λ below. ap (λ (n : ℕ). hostDelivery n network) (code-means .0 k below), refl)
+
+-- a Commit into an N of two slots with a 2a in it, and again; a 1a into a full one; a byte that is no map
+pub deliver-examples :
+    (hostDeliveryOf (deliverStep (planOf 1 1 1) (0x19 ∷ 0 ∷ 0 ∷ 1 ∷ replicate 8 0) (0x10 ∷ 1 ∷ []))
+    ≡ hostDelivery 1 (0x19 ∷ 0 ∷ 0 ∷ 1 ∷ 0 ∷ 0 ∷ 0x10 ∷ 1 ∷ replicate 4 0))
+    × (hostDeliveryOf (deliverStep (planOf 1 1 1) (0x10 ∷ 1 ∷ replicate 10 0) (0x10 ∷ 1 ∷ [])) ≡ hostDelivery 0 (0x10 ∷ 1 ∷ replicate 10 0))
+    × (hostDeliveryOf (deliverStep (planOf 1 1 1) (0x10 ∷ 1 ∷ replicate 4 0) (0x09 ∷ 0 ∷ 1 ∷ [])) ≡ hostDelivery 65549 (0x10 ∷ 1 ∷ replicate 4 0))
+    × (hostDeliveryOf (deliverStep (planOf 1 1 1) (replicate 6 0) (0x11 ∷ [])) ≡ hostDelivery 65551 (replicate 6 0))
+unfolding deliverStep deliverJudged readMessage andThen refuseIf isPlan isCount mapLength mapLengths decode fieldsMessage isInRange isVote isValue
+    bytesOf bytesOf1b messageLength slotOf all isTableLength slotsUpTo slots isZero readSlot readTable allUnused isOrdered isTable usedMessages
+    messages sameBytes storeAt sameMessage placeFrom placeIn
+deliver-examples = (refl, refl, refl, refl)
