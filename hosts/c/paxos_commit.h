@@ -2,10 +2,12 @@
  * The proved Paxos Commit record, for C and C++.
  *
  * The calls are written in Rattle and proved to answer and store exactly what document 01 says. Each group below is a
- * static library of its own; a host links the one that it needs, and none has another role's code. They link into
- * x86-64 programs, position independent or not, use less than 8 KiB of stack, and want `memset` and nothing else.
+ * static library of its own; a host links those that it needs, and none has another role's code. They link into x86-64
+ * programs, position independent or not, and use less than 8 KiB of stack. libhost_message.a wants nothing, the others
+ * `memset`.
  *
- *     libhost_message.a     paxos_commit_read, paxos_commit_write, paxos_commit_deliver
+ *     libhost_message.a     paxos_commit_read, paxos_commit_write
+ *     libhost_deliver.a     paxos_commit_deliver
  *     libhost_rm.a          paxos_commit_rm_step
  *     libhost_acceptor.a    paxos_commit_acceptor_step
  *     libhost_leader.a      paxos_commit_leader_step
@@ -167,6 +169,8 @@ uint64_t paxos_commit_read(uint8_t rms, uint8_t acceptors, uint8_t leaders, cons
  * zeros, as in a slot. Refused: byte 0 is 1, 15 (a map that is none of the six) or 17, the others are 0. */
 uint64_t paxos_commit_write(uint8_t rms, uint8_t acceptors, uint8_t leaders, uint8_t map, uint8_t ins, uint8_t acc,
                             uint8_t mbal, uint8_t bal, uint8_t val);
+
+/* ---- libhost_deliver.a ---- */
 
 /* The delivery: what another host sent, or any other bytes, came to this host, whose N is lent. The message goes into
  * the first unused slot unless it stands in N. The answer is the first slot where it stands, which events of kinds 2, 3

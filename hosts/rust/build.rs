@@ -7,8 +7,9 @@ use std::env;
 use std::path::{Path, PathBuf};
 
 /// A feature, as Cargo names it to a build script, and its static library.
-const LIBRARIES: [(&str, &str); 5] = [
+const LIBRARIES: [(&str, &str); 6] = [
     ("CARGO_FEATURE_MESSAGE", "host_message"),
+    ("CARGO_FEATURE_DELIVER", "host_deliver"),
     ("CARGO_FEATURE_RM", "host_rm"),
     ("CARGO_FEATURE_ACCEPTOR", "host_acceptor"),
     ("CARGO_FEATURE_LEADER", "host_leader"),

@@ -6,7 +6,14 @@
 //! it. The functions have no other condition: they are proved to end, and to read and write inside the slices only, for
 //! all bytes and all lengths. They keep no pointer, call nothing of the host and never unwind.
 
-#[cfg(any(feature = "message", feature = "rm", feature = "acceptor", feature = "leader", feature = "record"))]
+#[cfg(any(
+    feature = "message",
+    feature = "deliver",
+    feature = "rm",
+    feature = "acceptor",
+    feature = "leader",
+    feature = "record"
+))]
 use crate::plan::Plan;
 
 #[cfg(any(feature = "rm", feature = "acceptor", feature = "leader"))]
@@ -29,7 +36,7 @@ unsafe extern "C" {
         val: u8,
     ) -> u64;
 
-    #[cfg(feature = "message")]
+    #[cfg(feature = "deliver")]
     fn paxos_commit_deliver(
         rms: u8,
         acceptors: u8,
@@ -130,7 +137,7 @@ pub fn write(plan: Plan, fields: [u8; 6]) -> [u8; 8] {
     unsafe { paxos_commit_write(plan.rms, plan.acceptors, plan.leaders, map, ins, acc, mbal, bal, val) }.to_le_bytes()
 }
 
-#[cfg(feature = "message")]
+#[cfg(feature = "deliver")]
 #[inline]
 pub fn deliver(plan: Plan, network: &mut [u8], bytes: &[u8]) -> u32 {
     // SAFETY: two slices, of which the one that may be written overlaps nothing.

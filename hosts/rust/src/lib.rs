@@ -6,13 +6,15 @@
 //!
 //! | Feature | Static library | Calls |
 //! |---|---|---|
-//! | `message` | `libhost_message.a` | [`Message::read`], [`Message::write`], [`Fields::write`], [`deliver`] |
+//! | `message` | `libhost_message.a` | [`Message::read`], [`Message::write`], [`Fields::write`] |
+//! | `deliver` | `libhost_deliver.a` | [`deliver`] |
 //! | `rm` | `libhost_rm.a` | [`rm_step`] |
 //! | `acceptor` | `libhost_acceptor.a` | [`acceptor_step`] |
 //! | `leader` | `libhost_leader.a` | [`leader_step`] |
 //! | `record` | `libhost_record.a` | [`open`], [`step`], [`ending`], and [`Record`] over them |
 //!
-//! A host of one role takes that role's feature and `message`; all five are the default.
+//! A host of one role takes that role's feature, `deliver` for what comes from the wire, and `message` for what goes; all
+//! six are the default.
 //!
 //! Document 01's example, an order of one weight that ends committed:
 //!
@@ -52,7 +54,7 @@ mod roles;
 
 pub use answer::Answer;
 pub use event::Event;
-#[cfg(feature = "message")]
+#[cfg(feature = "deliver")]
 pub use message::deliver;
 pub use message::{Decision, Fields, Message, Value, Vote, Written};
 pub use plan::{MAX_SLOTS, Plan, SLOT, State, slots_len};

@@ -1,10 +1,12 @@
 //! Messages, their byte form, and the delivery of what came from another host.
 
 #[cfg(feature = "message")]
-use crate::answer::{outside, refused};
+use crate::answer::outside;
+#[cfg(any(feature = "message", feature = "deliver"))]
+use crate::answer::refused;
 #[cfg(feature = "message")]
 use crate::plan::SLOT;
-#[cfg(feature = "message")]
+#[cfg(any(feature = "message", feature = "deliver"))]
 use crate::{Plan, Refusal, ffi};
 use core::ops::Deref;
 
@@ -237,7 +239,7 @@ impl Message {
 /// network[5] = 1;
 /// assert_eq!(deliver(plan, &mut network, &[0x09, 0, 1]), Err(Refusal::BadNetwork));
 /// ```
-#[cfg(feature = "message")]
+#[cfg(feature = "deliver")]
 #[inline]
 pub fn deliver(plan: Plan, network: &mut [u8], bytes: &[u8]) -> Result<u16, Refusal> {
     match ffi::deliver(plan, network, bytes) {

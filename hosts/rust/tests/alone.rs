@@ -13,7 +13,15 @@ fn message() {
     let message = Message::Decision { val: Decision::Abort };
     let written = message.write(ONE).unwrap();
     assert_eq!(Message::read(ONE, &written), Ok(message));
-    assert_eq!(deliver(ONE, &mut [0; 6], &written), Ok(0));
+}
+
+#[cfg(feature = "deliver")]
+#[test]
+fn delivery() {
+    let mut network = [0; 6];
+    assert_eq!(deliver(ONE, &mut network, &[0x10, 2]), Ok(0));
+    assert_eq!(network, [0x10, 2, 0, 0, 0, 0]);
+    assert_eq!(deliver(ONE, &mut network, &[0x10, 1]), Err(Refusal::NetworkFull));
 }
 
 #[cfg(feature = "rm")]

@@ -1,5 +1,6 @@
 //! The lists of happenings of the crate `apart` on the linked calls: the one that ends committed (Examples.antt), and
-//! for each hypothesis those that fail it alone and break the claim (Needed.antt); with one more, for a leader's inbox.
+//! for each hypothesis those that fail it alone and break the claim (Needed.antt); with two more, for a
+//! leader's inbox that is lost, and for tables that are made longer.
 
 use paxos_commit::*;
 use std::collections::HashMap;
@@ -57,7 +58,10 @@ impl System {
                 failed.extend((!sent(&read)).then_some("NotForged"));
             }
             Happening::Restart(role, k, host) => {
-                failed.extend((host.table != self.hosts[&(*role, *k)].table).then_some("TableKept"));
+                let old = &self.hosts[&(*role, *k)].table;
+                let longer = old.len() % SLOT == 0
+                    && host.table.strip_prefix(&old[..]).is_some_and(|more| more.iter().all(|&byte| byte == 0));
+                failed.extend((host.table != *old && !longer).then_some("TableKept"));
                 failed.extend((!sent(&self.messages(&host.network))).then_some("NotForged"));
             }
         }
@@ -263,4 +267,34 @@ fn inbox_kept_needed() {
     genuine(s, act(Leader, 0, 8, 0, 0));
     take(s, Rm, 0, 2, &[0x10, 2]);
     assert_eq!(s.row(), [3, 2]);
+}
+
+/// A leader whose N, and then its inbox, has one slot: each is full, is made longer by zeros, and the next message has
+/// room.
+#[test]
+fn longer_tables() {
+    let plan = Plan { rms: 1, acceptors: 2, leaders: 1 };
+    let mut system = System::fresh(plan, [(Rm, 1, 1, 6), (Acceptor, 2, 6, 12), (Leader, 1, 6, 6)]);
+    let (slot, quiet) = (|slot| Ok(Answer::Slot(slot)), Ok(Answer::Quiet));
+    let votes = [0x1B, 0, 0, 0, 1, 0, 0x1B, 0, 1, 0, 1, 0];
+    for (happening, answer) in [
+        (act(Rm, 0, 0, 0, 0), slot(0)),
+        (to(Acceptor, 0, &[0x19, 0, 0, 1]), slot(0)),
+        (act(Acceptor, 0, 3, 0, 0), slot(1)),
+        (to(Acceptor, 1, &[0x19, 0, 0, 1]), slot(0)),
+        (act(Acceptor, 1, 3, 0, 0), slot(1)),
+        (to(Leader, 0, &votes[..5]), slot(0)),
+        (act(Leader, 0, 4, 0, 0), quiet),
+        (to(Leader, 0, &votes[6..11]), Err(Refusal::NetworkFull)),
+        (restart(Leader, 0, &votes[..6], &[&votes[..6], &[0; 12]].concat()), quiet),
+        (to(Leader, 0, &votes[6..11]), slot(1)),
+        (act(Leader, 0, 4, 0, 1), Err(Refusal::InboxFull)),
+        (restart(Leader, 0, &[&votes[..6], &[0; 6]].concat(), &[&votes[..], &[0; 6]].concat()), quiet),
+        (act(Leader, 0, 4, 0, 1), quiet),
+        (act(Leader, 0, 7, 0, 0), slot(2)),
+    ] {
+        assert_eq!(system.failed(&happening), [""; 0], "{happening:?}");
+        assert_eq!(system.happen(&happening), answer, "{happening:?}");
+    }
+    assert_eq!(system.hosts[&(Leader, 0)].table, votes);
 }
