@@ -2,6 +2,7 @@
 -- and an N of its own, and makes its role's own call. Messages pass between the hosts: lost, doubled, late, in any order. All have one plan.
 --     Role, Host, System          the hosts by role and number, and every message that was sent
 --     Happening                   what may happen to a host: a call, a delivery, a restart, each with any bytes
+--     roleStep, called, delivered, restarted, sentBy     what each does to its host, and what a call sends
 --     OwnNumber, NotForged, TableKept, Genuine     what is asked of a happening: three hypotheses by name, and which of them where
 --     Made, made                  what it answers and leaves
 --     row, published              the weights' states, and the variables of module PaxosCommit

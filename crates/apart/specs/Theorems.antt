@@ -44,7 +44,8 @@ use Rattle.deliver.specs.Deliver.{deliverStep}
 use Rattle.deliver.specs.Deliver.Laws as Deliver
 use Rattle.apart.specs.Delivery.{deliverRows}
 use Rattle.apart.specs.Delivery.Ruled.{deliver-ruled, sends-of-delivery}
-use Rattle.apart.specs.Hosts.{Role, leader, System, Happening, call, delivery, restart, NotForged, Genuine, row, Fresh, systemAfter, answers, AllGenuine, Safe, AfterEach}
+use Rattle.apart.specs.Hosts.{Role, leader, System, Happening, call, delivery, restart, NotForged, Genuine, row, Fresh, systemAfter, answers}
+use Rattle.apart.specs.Hosts.{AllGenuine, Safe, AfterEach}
 use Rattle.apart.specs.Hosts.Tied.{Grounded}
 use Rattle.apart.specs.Hosts.Restart.{messages-longer}
 use Rattle.apart.specs.Hosts.Lists.{grounded-fresh, each-safe, grounded-after, genuine-start, no-11}
@@ -91,9 +92,6 @@ module _ (p : Plan) where
       g : Grounded p end
       g = grounded-after p s (grounded-fresh p s fresh) hs ok
 
-      abbrev decided : (Message → Type 0) → ℕ → Val → Type 0
-      decided = Decided (isRM p) (isAcceptor p) (isMajoritySet p)
-
       pub longer-network : (role : Role) (k n : ℕ) → length (end .hosts role k .network) % 6 ≡ 0
           → Genuine p end (restart role k (end .hosts role k .table) (end .hosts role k .network ++ replicate n 0))
       longer-network role k n whole = (inl refl, rw (messages-longer p n (end .hosts role k .network) whole) (g .tied .networks role k))
@@ -105,39 +103,43 @@ module _ (p : Plan) where
       pub hosts-consistent : (i j : ℕ) → isRM p i → isRM p j → row end i ≡ committed → row end j ≡ aborted → ⊥
       hosts-consistent i j q k is gone = consistent (g .inv) (majorities-meet p .1) j i k q gone is
 
-      pub hosts-agree : (i : ℕ) (v w : Val) → decided (setOf (end .wire)) i v → decided (setOf (end .wire)) i w → v ≡ w
+      pub hosts-agree : (i : ℕ) (v w : Val)
+          → Decided (isRM p) (isAcceptor p) (isMajoritySet p) (setOf (end .wire)) i v
+          → Decided (isRM p) (isAcceptor p) (isMajoritySet p) (setOf (end .wire)) i w
+          → v ≡ w
       hosts-agree = one-chosen (g .inv) (majorities-meet p .1)
 
-      pub leaders-agree : (l k i : ℕ) (v w : Val) → decided (setOf (messages p (end .hosts leader l .table))) i v
-          → decided (setOf (messages p (end .hosts leader k .table))) i w → v ≡ w
+      pub leaders-agree : (l k i : ℕ) (v w : Val)
+          → Decided (isRM p) (isAcceptor p) (isMajoritySet p) (setOf (messages p (end .hosts leader l .table))) i v
+          → Decided (isRM p) (isAcceptor p) (isMajoritySet p) (setOf (messages p (end .hosts leader k .table))) i w
+          → v ≡ w
       leaders-agree l k i v w d e = hosts-agree i v w (heard l i v d) (heard k i w e)
         where
-          heard : (l i : ℕ) (v : Val) → decided (setOf (messages p (end .hosts leader l .table))) i v → decided (setOf (end .wire)) i v
+          heard : (l i : ℕ) (v : Val)
+              → Decided (isRM p) (isAcceptor p) (isMajoritySet p) (setOf (messages p (end .hosts leader l .table))) i v
+              → Decided (isRM p) (isAcceptor p) (isMajoritySet p) (setOf (end .wire)) i v
           heard l = decided-kept (isRM p) (isAcceptor p) (isMajoritySet p) _ _ (g .tied .inboxes l)
 
       pub hosts-one-decision : setOf (end .wire) Commit → setOf (end .wire) Abort → ⊥
       hosts-one-decision = never-both (g .inv) (majorities-meet p .1)
 
   -- a majority's 2b for instance i, ballot c and value v were sent
-  abbrev pub Chosen : System → ℕ → ℕ → Val → Type 0
-  Chosen s i c v = (MS : ℕ → Bool) × isMajoritySet p MS × ((a : ℕ) → MS a ≡ true → setOf (s .wire) (phase2b a i c v))
-
   module _ (s : System) (fresh : Fresh s) (hs more : List Happening) (ok : AllGenuine p s (hs ++ more)) (i c b : ℕ) (v w : Val) (later : c ≤ b)
-      (chosen : Chosen (systemAfter p s hs) i c v) where
+      (MS : ℕ → Bool) (many : isMajoritySet p MS) (chosen : (a : ℕ) → MS a ≡ true → setOf (systemAfter p s hs .wire) (phase2b a i c v)) where
     abbrev last : System
     last = systemAfter p s (hs ++ more)
 
     grounded-last : Grounded p last
     grounded-last = grounded-after p s (grounded-fresh p s fresh) (hs ++ more) ok
 
-    votes : (a : ℕ) → chosen .0 a ≡ true → setOf (last .wire) (phase2b a i c v)
-    votes a h = let (m, there, e) = chosen .2 a h in (m, wire-kept s hs more m there, e)
+    votes : (a : ℕ) → MS a ≡ true → setOf (last .wire) (phase2b a i c v)
+    votes a h = let (m, there, e) = chosen a h in (m, wire-kept s hs more m there, e)
 
     pub hosts-chosen-2a : setOf (last .wire) (phase2a i b w) → w ≡ v
-    hosts-chosen-2a = chosen-2a (grounded-last .inv) (majorities-meet p .1) i c b v w (chosen .0) (chosen .1) votes later
+    hosts-chosen-2a = chosen-2a (grounded-last .inv) (majorities-meet p .1) i c b v w MS many votes later
 
     pub hosts-chosen-2b : (a : ℕ) → setOf (last .wire) (phase2b a i b w) → w ≡ v
-    hosts-chosen-2b = chosen-2b (grounded-last .inv) (majorities-meet p .1) i c b v w (chosen .0) (chosen .1) votes later
+    hosts-chosen-2b = chosen-2b (grounded-last .inv) (majorities-meet p .1) i c b v w MS many votes later
 
 -- bytes that came to a host with this N
 module _ (p : Plan) (network bytes : List ℕ) where

@@ -28,7 +28,8 @@ use Rattle.acceptor.specs.Acceptor.{acceptorStep}
 use Rattle.leader.specs.Leader.{leaderStep}
 use Rattle.record.specs.Record.{zeroed}
 use Rattle.deliver.specs.Deliver.{deliverStep}
-use Rattle.apart.specs.Hosts.{Role, rm, acceptor, leader, Host, System, Happening, call, delivery, restart, roleStep, Made, made, Genuine, row, Fresh, systemAfter, answers, AllGenuine, Safe, AfterEach}
+use Rattle.apart.specs.Hosts.{Role, rm, acceptor, leader, Host, System, Happening, call, delivery, restart, roleStep, Made, made, Genuine, row}
+use Rattle.apart.specs.Hosts.{Fresh, systemAfter, answers, AllGenuine, Safe, AfterEach}
 use Rattle.apart.specs.Hosts.Lists as Lists
 use Rattle.apart.specs.Hosts.Moved as Moved
 use Rattle.apart.specs.Theorems.{hosts-safe}
@@ -164,6 +165,20 @@ SafeInWords p s r =
     (((i : ℕ) → byte (r .system) i ≡ byte s i) ⊎ OneStep (p .rms) (byte s) (byte (r .system)))
     × ((i j : ℕ) → i < p .rms → j < p .rms → byte (r .system) i ≡ 2 → byte (r .system) j ≡ 3 → ⊥)
     × (r .answer ≡ refused 11 → ⊥)
+
+-- written out
+pub words-mean : (p : Plan) (s : System) (r : Made) → SafeInWords p s r
+    → (((i : ℕ) → getD (r .system .hosts rm i .table) i 0 ≡ getD (s .hosts rm i .table) i 0)
+    ⊎ ((i : ℕ) × (i < p .rms)
+    × ((j : ℕ) → (j ≡ i → ⊥) → getD (r .system .hosts rm j .table) j 0 ≡ getD (s .hosts rm j .table) j 0)
+    × (((getD (s .hosts rm i .table) i 0 ≡ 0) × (getD (r .system .hosts rm i .table) i 0 ≡ 1))
+    ⊎ (((getD (s .hosts rm i .table) i 0 ≡ 1) × (getD (r .system .hosts rm i .table) i 0 ≡ 2)
+    × ((j : ℕ) → j < p .rms → (getD (s .hosts rm j .table) j 0 ≡ 1) ⊎ (getD (s .hosts rm j .table) j 0 ≡ 2)))
+    ⊎ (((getD (s .hosts rm i .table) i 0 ≡ 0) ⊎ (getD (s .hosts rm i .table) i 0 ≡ 1)) × (getD (r .system .hosts rm i .table) i 0 ≡ 3)
+    × ((j : ℕ) → j < p .rms → getD (s .hosts rm j .table) j 0 ≡ 2 → ⊥))))))
+    × ((i j : ℕ) → i < p .rms → j < p .rms → getD (r .system .hosts rm i .table) i 0 ≡ 2 → getD (r .system .hosts rm j .table) j 0 ≡ 3 → ⊥)
+    × (r .answer ≡ refused 11 → ⊥)
+words-mean p s r h = h
 
 pub safe-words : (p : Plan) (s : System) (r : Made) → Safe p s r → SafeInWords p s r
 safe-words p s r safe = (

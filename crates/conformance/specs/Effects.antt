@@ -5,12 +5,12 @@
 --     acted-members     the process, the instance and the ballot of an accepted call are those that the plan allows
 --     copies-one        a receipt leaves one record
 -- That `Acted` leaves one record is `acted-one` of Theorems.antt. Assumes nothing.
+pub mod Laws
 use Prim.Native.Nat.{ℕ, _≤_, _<_}
 use mathlib.Core.Bool.{true}
 use mathlib.Core.List.{List}
-use mathlib.Core.Logic.{_⊎_, inl, inr, ⊎-elim, _↔_}
+use mathlib.Core.Logic.{_⊎_, _↔_}
 use mathlib.Core.Path.{_≡_, refl, sym, _∙_, ap}
-use native.Mathlib.Omega.{arith}
 use Rattle.message.specs.declared.Plan.{Plan}
 use Rattle.message.specs.declared.Message as Wire
 use Rattle.message.specs.declared.Message.the-variants.{Phase1a, Phase2a}
@@ -25,15 +25,14 @@ use Rattle.record.specs.Record.{Tables, tablesOf, inboxOf, withInbox}
 use Rattle.paxos_commit.specs.PaxosCommit as Module
 use Rattle.paxos_commit.specs.PaxosCommit.{State, Message, Commit, Abort}
 use Rattle.matching.specs.Reading.{isRM, isAcceptor, isMajoritySet, valOf, messageOf, setOf, rmStateOf, aStateOf}
-use Rattle.matching.specs.Call.{SlotHolds}
 use Rattle.matching.specs.Rm as Rm
 use Rattle.matching.specs.Acceptor as Acceptor
 use Rattle.matching.specs.Leader as Leader
 use Rattle.conformance.specs.Record.{recordState, ownInbox, Acted}
-use Rattle.conformance.specs.Record.{prepares, chooses-to-abort, receives-commit, receives-abort, promises, casts-vote, receives, opens-ballot, proposes, commits, aborts}
 use Rattle.conformance.specs.Record.Determined.{stores-one}
 use Rattle.conformance.specs.Action.{Action, Copies}
 use Rattle.conformance.specs.Action.Laws.{action-acted}
+use Rattle.conformance.specs.Effects.Laws.{receives-either, members-acted}
 
 module _ (p : Plan) (t : Tables) where
   pub role-states :
@@ -43,25 +42,7 @@ module _ (p : Plan) (t : Tables) where
   role-states = (refl, refl, refl)
 
 module _ (p : Plan) (t : Tables) (e : List ℕ) where
-  -- the message in the event's slot of N
-  abbrev InSlot : Wire.Message → Type 0
-  InSlot m = messageAt (messages p (t .network)) (slotNumber e) ≡ accepted m
-
   module _ (s s′ : State) where
-    -- the decision in the slot, and its receipt
-    abbrev Receives : Type 0
-    Receives =
-        (m : Wire.Message) × InSlot m
-        × (((messageOf m ≡ Commit) × Module.RMRcvCommitMsg (isRM p) (isAcceptor p) (isMajoritySet p) (whoOf e) s s′)
-        ⊎ ((messageOf m ≡ Abort) × Module.RMRcvAbortMsg (isRM p) (isAcceptor p) (isMajoritySet p) (whoOf e) s s′))
-
-    receives-either :
-        (SlotHolds p (t .network) e (λ m. messageOf m ≡ Commit) × Module.RMRcvCommitMsg (isRM p) (isAcceptor p) (isMajoritySet p) (whoOf e) s s′)
-        ⊎ (SlotHolds p (t .network) e (λ m. messageOf m ≡ Abort) × Module.RMRcvAbortMsg (isRM p) (isAcceptor p) (isMajoritySet p) (whoOf e) s s′)
-        → Receives
-    receives-either (inl ((m, held, is), h)) = (m, held, inl (is, h))
-    receives-either (inr ((m, held, is), h)) = (m, held, inr (is, h))
-
     pub action-kinds : Action p t e s s′
         → (kindOf e ≡ 0 → Module.RMPrepare (isRM p) (isAcceptor p) (isMajoritySet p) (whoOf e) s s′)
         × (kindOf e ≡ 1 → Module.RMChooseToAbort (isRM p) (isAcceptor p) (isMajoritySet p) (whoOf e) s s′)
@@ -86,7 +67,7 @@ module _ (p : Plan) (t : Tables) (e : List ℕ) where
     action-kinds a = (
       a .kind-0,
       a .kind-1,
-      λ kind. receives-either (a .kind-2 kind),
+      λ kind. receives-either p t e s s′ (a .kind-2 kind),
       a .kind-3,
       a .kind-4,
       a .kind-5,
@@ -98,44 +79,12 @@ module _ (p : Plan) (t : Tables) (e : List ℕ) where
   pub acted-action : (answer : Outcome Sent) (u : Tables) → Acted p t e answer u → Action p t e (recordState p t) (recordState p u)
   acted-action = action-acted p t e
 
-  -- who the event names, and of kinds 5 and 6 the instance and the ballot
-  abbrev Members : Type 0
-  Members =
-      (kindOf e ≤ 2 → whoOf e < p .rms)
-      × (kindOf e ≡ 3 → whoOf e < p .acceptors)
-      × (3 < kindOf e → whoOf e < p .leaders)
-      × ((kindOf e ≡ 5) ⊎ (kindOf e ≡ 6) → (highOf e < p .rms) × (owns p (whoOf e) (lowOf e) ≡ true))
-
-  no-ballot : (kindOf e ≡ 5 → ⊥) → (kindOf e ≡ 6 → ⊥) → (kindOf e ≡ 5) ⊎ (kindOf e ≡ 6) → (highOf e < p .rms) × (owns p (whoOf e) (lowOf e) ≡ true)
-  no-ballot five six = ⊎-elim (λ k. absurd (five k)) (λ k. absurd (six k))
-
-  rm-members : kindOf e ≤ 2 → whoOf e < p .rms → Members
-  rm-members kind who = (λ k. who, λ k. absurd (omega arith), λ k. absurd (omega arith), no-ballot (λ k. omega arith) (λ k. omega arith))
-
-  acceptor-members : kindOf e ≡ 3 → whoOf e < p .acceptors → Members
-  acceptor-members kind who = (λ k. absurd (omega arith), λ k. who, λ k. absurd (omega arith), no-ballot (λ k. omega arith) (λ k. omega arith))
-
-  leader-members : 3 < kindOf e → whoOf e < p .leaders
-      → ((kindOf e ≡ 5) ⊎ (kindOf e ≡ 6) → (highOf e < p .rms) × (owns p (whoOf e) (lowOf e) ≡ true)) → Members
-  leader-members kind who ballot = (λ k. absurd (omega arith), λ k. absurd (omega arith), λ k. who, ballot)
-
   pub acted-members : (answer : Outcome Sent) (u : Tables) → Acted p t e answer u
       → (kindOf e ≤ 2 → whoOf e < p .rms)
       × (kindOf e ≡ 3 → whoOf e < p .acceptors)
       × (3 < kindOf e → whoOf e < p .leaders)
       × ((kindOf e ≡ 5) ⊎ (kindOf e ≡ 6) → (highOf e < p .rms) × (owns p (whoOf e) (lowOf e) ≡ true))
-  acted-members answer u (prepares kind rm acts sent same) = rm-members (omega arith) rm
-  acted-members answer u (chooses-to-abort kind rm acts sent same) = rm-members (omega arith) rm
-  acted-members answer u (receives-commit kind rm slot acts is same) = rm-members (omega arith) rm
-  acted-members answer u (receives-abort kind rm slot acts is same) = rm-members (omega arith) rm
-  acted-members answer u (promises kind acc ins bal slot acts sent same) = acceptor-members kind acc
-  acted-members answer u (casts-vote kind acc ins bal val slot acts sent same) = acceptor-members kind acc
-  acted-members answer u (receives kind member m slot taken is box stores same) =
-      leader-members (omega arith) member (no-ballot (λ k. omega arith) (λ k. omega arith))
-  acted-members answer u (opens-ballot kind member rm owned acts sent same) = leader-members (omega arith) member (λ k. (rm, owned))
-  acted-members answer u (proposes kind member rm owned acts is sent box stores same) = leader-members (omega arith) member (λ k. (rm, owned))
-  acted-members answer u (commits kind member acts sent same) = leader-members (omega arith) member (no-ballot (λ k. omega arith) (λ k. omega arith))
-  acted-members answer u (aborts kind member acts sent same) = leader-members (omega arith) member (no-ballot (λ k. omega arith) (λ k. omega arith))
+  acted-members answer u acted = members-acted p t e acted
 
   pub copies-one : (u v : Tables) → Copies p t e u → Copies p t e v → u ≡ v
   copies-one u v (m, held, taken, (box, h, is)) (n, holds, also, (case, k, was)) =

@@ -31,7 +31,8 @@ use Rattle.rm.specs.Rm.{rmJudged, rmStep}
 use Rattle.acceptor.specs.Acceptor.{acceptorJudged, acceptorStep}
 use Rattle.leader.specs.Leader.{leaderJudged, leaderStep}
 use Rattle.record.specs.Record.{Tables, tablesOf, inboxOf, recordJudged, recordOpen, RecordStep, onStates, onVotes, onInbox, recordStep}
-use Rattle.conformance.specs.Record.{WrongLengths, recordRows, tableRows, rmTableRows, acceptorTableRows, leaderTableRows, SoundStates, SoundVotes, SoundInboxes, SoundOthers, Acted}
+use Rattle.conformance.specs.Record.{WrongLengths, recordRows, tableRows, rmTableRows, acceptorTableRows, leaderTableRows, SoundStates}
+use Rattle.conformance.specs.Record.{SoundVotes, SoundInboxes, SoundOthers, Acted}
 use Rattle.conformance.specs.Record.Ruled.{record-ruled}
 use Rattle.conformance.specs.Record.Opened as Opened
 use Rattle.conformance.specs.Record.Steps.{keeps, stays-sound}

@@ -17,7 +17,8 @@ use Rattle.message.specs.Plan.{isPlan, isCount}
 use Rattle.message.specs.Form.{isValue, isVote, isInRange, bytesOf, bytesOf1b, messageLength, slotOf, mapLengths, mapLength, fieldsMessage, decode}
 use Rattle.message.specs.Codec.{readMessage}
 use Rattle.slots.specs.All.{all}
-use Rattle.slots.specs.Table.{isTableLength, slotsUpTo, slots, isZero, readSlot, readTable, allUnused, isOrdered, isTable, usedMessages, messages, sameBytes, storeAt}
+use Rattle.slots.specs.Table.{isTableLength, slotsUpTo, slots, isZero, readSlot, readTable, allUnused, isOrdered, isTable, usedMessages, messages}
+use Rattle.slots.specs.Table.{sameBytes, storeAt}
 use Rattle.slots.specs.Send.{sameMessage, placeFrom, placeIn, messageAt}
 use Rattle.slots.specs.View.{sending}
 use Rattle.event.specs.Event.{slotNumber, whoLimit, areZero, areArguments, isEvent}

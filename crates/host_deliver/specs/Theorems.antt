@@ -1,6 +1,6 @@
 -- What a delivery's number says.
 --     delivery-means        a slot is its number, refusal k 65536 + k, and N stands beside it
---     deliver-examples      a message put into N, one that stands there, no room, and a slice that is no message, computed
+--     deliver-examples      a message put into N, one that stands there, and each refusal, computed
 -- Assumes nothing.
 use Prim.Native.Nat.{ℕ, _+_, _<_}
 use mathlib.Core.List.{List, [], _∷_}
@@ -11,7 +11,8 @@ use Rattle.message.specs.Plan.{isCount, isPlan}
 use Rattle.message.specs.Form.{isValue, isVote, isInRange, bytesOf1b, bytesOf, messageLength, slotOf, mapLengths, mapLength, fieldsMessage, decode}
 use Rattle.message.specs.Codec.{readMessage}
 use Rattle.slots.specs.All.{all}
-use Rattle.slots.specs.Table.{isTableLength, slotsUpTo, slots, isZero, readSlot, readTable, allUnused, isOrdered, isTable, usedMessages, messages, sameBytes, storeAt}
+use Rattle.slots.specs.Table.{isTableLength, slotsUpTo, slots, isZero, readSlot, readTable, allUnused, isOrdered, isTable, usedMessages, messages}
+use Rattle.slots.specs.Table.{sameBytes, storeAt}
 use Rattle.slots.specs.Send.{sameMessage, placeFrom, placeIn}
 use Rattle.change.specs.declared.Sent.the-variants.{Slot}
 use Rattle.deliver.specs.Deliver.{deliverJudged, deliverStep}
@@ -26,14 +27,19 @@ pub delivery-means : (k : ℕ) (network : List ℕ)
     × (hostDeliveryOf (record { answer = refused k; network = network }) ≡ hostDelivery (65536 + k) network)
 delivery-means k network = (refl, refl, λ below. ap (λ (n : ℕ). hostDelivery n network) (code-means .0 k below), refl)
 
--- a Commit into an N of two slots with a 2a in it, and again; a 1a into a full one; a byte that is no map
+-- a Commit into an N of two slots with a 2a in it, and again; then 13, 15, 16 and 17; and 1, 2 and 5, each before a slice that is no message
 pub deliver-examples :
     (hostDeliveryOf (deliverStep (planOf 1 1 1) (0x19 ∷ 0 ∷ 0 ∷ 1 ∷ replicate 8 0) (0x10 ∷ 1 ∷ []))
     ≡ hostDelivery 1 (0x19 ∷ 0 ∷ 0 ∷ 1 ∷ 0 ∷ 0 ∷ 0x10 ∷ 1 ∷ replicate 4 0))
     × (hostDeliveryOf (deliverStep (planOf 1 1 1) (0x10 ∷ 1 ∷ replicate 10 0) (0x10 ∷ 1 ∷ [])) ≡ hostDelivery 0 (0x10 ∷ 1 ∷ replicate 10 0))
     × (hostDeliveryOf (deliverStep (planOf 1 1 1) (0x10 ∷ 1 ∷ replicate 4 0) (0x09 ∷ 0 ∷ 1 ∷ [])) ≡ hostDelivery 65549 (0x10 ∷ 1 ∷ replicate 4 0))
     × (hostDeliveryOf (deliverStep (planOf 1 1 1) (replicate 6 0) (0x11 ∷ [])) ≡ hostDelivery 65551 (replicate 6 0))
+    × (hostDeliveryOf (deliverStep (planOf 1 1 1) (replicate 6 0) (0x10 ∷ [])) ≡ hostDelivery 65552 (replicate 6 0))
+    × (hostDeliveryOf (deliverStep (planOf 1 1 1) (replicate 6 0) (0x10 ∷ 3 ∷ [])) ≡ hostDelivery 65553 (replicate 6 0))
+    × (hostDeliveryOf (deliverStep (planOf 0 1 1) (replicate 5 0) (0x11 ∷ [])) ≡ hostDelivery 65537 (replicate 5 0))
+    × (hostDeliveryOf (deliverStep (planOf 1 1 1) (replicate 5 0) (0x11 ∷ [])) ≡ hostDelivery 65538 (replicate 5 0))
+    × (hostDeliveryOf (deliverStep (planOf 1 1 1) (0x11 ∷ replicate 5 0) (0x11 ∷ [])) ≡ hostDelivery 65541 (0x11 ∷ replicate 5 0))
 unfolding deliverStep deliverJudged readMessage andThen refuseIf isPlan isCount mapLength mapLengths decode fieldsMessage isInRange isVote isValue
     bytesOf bytesOf1b messageLength slotOf all isTableLength slotsUpTo slots isZero readSlot readTable allUnused isOrdered isTable usedMessages
     messages sameBytes storeAt sameMessage placeFrom placeIn
-deliver-examples = (refl, refl, refl, refl)
+deliver-examples = (refl, refl, refl, refl, refl, refl, refl, refl, refl)

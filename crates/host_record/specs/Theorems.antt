@@ -2,7 +2,7 @@
 --     opening-means     0, or the refusal's number
 --     event-means       a slot is its number, quiet 65535, refusal k 65536 + k
 --     ending-means      0 open, 1 committed, 2 aborted, refusal k 65536 + k
---     ending-answers    the ending's refusal is the lowest number that applies
+--     endingRows, ending-answers    the ending's refusal is the lowest number that applies
 --     ending-words      else it is 1 exactly where all weights are 2, 2 where all are 3, and 0 where neither is so
 -- Assumes nothing.
 use Prim.Native.Nat.{ℕ, _+_, _<_}

@@ -4,8 +4,9 @@
 --     state-types, message-words, assume-words       PCTypeOK: the row, and each message in msgs; the set Message; the ASSUME
 --     first-state, step-words, spec-words            PCInit, PCStep and PCSpec
 --     next-all                  each action in all its ranges is a PCNext (that there is no other: next-cases of Theorems.antt)
+--     actions-mean              Phase2a, Phase1b, Phase2b and Decide by what they read, and by their messages
 --     proposes-one, next-one    an action has one next state, Phase2a for each value that it may propose
---     enabled-words             when an action is enabled, at every size
+--     proposes-enabled, enabled-words     when an action is enabled, at every size
 -- Assumes nothing.
 use Prim.Native.Nat.{ℕ, suc, _≤_, _<_}
 use mathlib.Core.Bool.{Bool, true, cond}
@@ -87,6 +88,15 @@ module _ (RM Acceptor : ℕ → Type 0) (Majority : (ℕ → Bool) → Type 0) w
         ⊎ ((s′ .rmState ≡ s .rmState) × (s′ .aState ≡ s .aState) × ((x : Message) → s′ .msgs x ↔ s .msgs x)))
     step-words = (λ h. h, λ h. h)
 
+    pub actions-mean : (bal rm acc : ℕ)
+        → (Module.Phase2a RM Acceptor Majority bal rm s s′ ↔ Module.Phase2aFrom RM Acceptor Majority (s .msgs) bal rm s s′)
+        × (Module.Phase1b RM Acceptor Majority acc s s′ ↔ ((ins b : ℕ) × Module.Phase1bOn RM Acceptor Majority acc ins b s s′))
+        × (Module.Phase2b RM Acceptor Majority acc s s′ ↔ ((ins b : ℕ) × (v : Val) × Module.Phase2bOn RM Acceptor Majority acc ins b v s s′))
+        × (Module.Decide RM Acceptor Majority s s′
+        ↔ (Module.DecideCommitWhere RM Acceptor Majority (Module.Decided RM Acceptor Majority (s .msgs)) s s′
+        ⊎ Module.DecideAbortWhere RM Acceptor Majority (Module.Decided RM Acceptor Majority (s .msgs)) s s′))
+    actions-mean bal rm acc = ((λ h. h, λ h. h), (λ h. h, λ h. h), (λ h. h, λ h. h), (λ h. h, λ h. h))
+
     -- each action, in all its ranges, is a PCNext
     pub next-all :
         ((rm : ℕ) → RM rm → Module.RMPrepare RM Acceptor Majority rm s s′ ⊎ (Module.RMChooseToAbort RM Acceptor Majority rm s s′
@@ -139,6 +149,15 @@ module _ (RM Acceptor : ℕ → Type 0) (Majority : (ℕ → Bool) → Type 0) w
 module _ (RM Acceptor : ℕ → Type 0) (Majority : (ℕ → Bool) → Type 0) (s : State) where
   abbrev next : (ℕ → ℕ) → (ℕ → ℕ → Module.AState) → Message → State
   next row states m = record { rmState = row; aState = states; msgs = λ x. s .msgs x ⊎ (x ≡ m) }
+
+  pub proposes-enabled : (seen : Message → Type 0) (bal rm : ℕ) → ((v : Val) → seen (phase2a rm bal v) → ⊥)
+      → (MS : ℕ → Bool) → Majority MS → ((ac : ℕ) → MS ac ≡ true → (b : Bal) × (v : Val) × seen (phase1b rm bal b v ac))
+      → (v : Val) → Module.ProposedVal RM Acceptor Majority seen bal rm MS v
+      → Module.Enabled RM Acceptor Majority (Module.Phase2aFrom RM Acceptor Majority seen bal rm) s
+  proposes-enabled seen bal rm unsent MS many heard v value = (
+    next (s .rmState) (s .aState) (phase2a rm bal v),
+    (unsent, (MS, many, v, λ ac h. let (b, w, at) = heard ac h in (b, w, (at, h)), value, λ x. (λ h. h, λ h. h)), refl, refl),
+  )
 
   pub enabled-words : (rm acc bal ins : ℕ) (v : Val) (decided : ℕ → Val → Type 0)
       → (Module.Enabled RM Acceptor Majority (Module.RMPrepare RM Acceptor Majority rm) s → s .rmState rm ≡ 0)

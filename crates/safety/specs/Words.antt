@@ -7,22 +7,21 @@
 --     safe-words         what `Safe` says of a call is that
 --     words-mean         and that is document 01's text, written out
 --     demand-3-words     so it is after each call of every list from a fresh record
--- Assumes nothing.
-use Prim.Native.Nat.{ℕ, zero, suc, _<_}
-use mathlib.Core.List.{List, [], _∷_, List·Memᴰ, List·Memᴰ·head, List·Memᴰ·tail}
+-- Its laws are in Words/Laws.antt. Assumes nothing.
+pub mod Laws
+use Prim.Native.Nat.{ℕ, _<_}
+use mathlib.Core.List.{List}
 use mathlib.Core.Logic.{_⊎_, inl, inr, ⊎-elim}
-use mathlib.Core.Path.{_≡_, refl, sym, _∙_, ap}
-use native.Mathlib.Decide.{decLt}
+use mathlib.Core.Path.{_≡_, refl}
 use native.Mathlib.Omega.{arith}
-use lib.ListN.{length, getD, set, length-set, List·getD-eq-default}
-use lib.Seq.{ext-getD, getD-set-same, getD-set-other}
+use lib.ListN.{length, getD, set}
 use Rattle.message.specs.declared.Plan.{Plan}
 use Rattle.message.specs.Outcome.{refused}
-use Rattle.tcommit.specs.TCommit.{except, TCNext}
-use Rattle.tcommit.specs.TCommit.Laws.{except-cases, except-here}
+use Rattle.tcommit.specs.TCommit.{TCNext}
 use Rattle.record.specs.Record.{Tables, RecordStep}
 use Rattle.matching.specs.Reading.{isRM, rmStateOf}
-use Rattle.safety.specs.Theorems.{Fresh, Call, made, AfterEach, Safe, demand-3}
+use Rattle.safety.specs.Theorems.{Fresh, Call, AfterEach, Safe, demand-3}
+use Rattle.safety.specs.Words.Laws.{changed, member-at, each-of-each}
 
 abbrev pub OneStep : ℕ → List ℕ → List ℕ → Type 0
 OneStep n W W′ =
@@ -31,25 +30,6 @@ OneStep n W W′ =
     × (((getD W i 0 ≡ 0) × (v ≡ 1))
     ⊎ (((getD W i 0 ≡ 1) × (v ≡ 2) × ((j : ℕ) → j < n → (getD W j 0 ≡ 1) ⊎ (getD W j 0 ≡ 2)))
     ⊎ (((getD W i 0 ≡ 0) ⊎ (getD W i 0 ≡ 1)) × (v ≡ 3) × ((j : ℕ) → j < n → getD W j 0 ≡ 2 → ⊥))))
-
--- rows of one length, where weight i alone changes, and to no 0
-module _ (W W′ : List ℕ) (size : length W′ ≡ length W) (i v : ℕ) (some : 0 < v) (e : rmStateOf W′ ≡ except (rmStateOf W) i v) where
-  stands : i < length W
-  stands = go (decLt i (length W))
-    where
-      go : Dec (i < length W) → i < length W
-      go (yes h) = h
-      go (no h) =
-          let new : getD W′ i 0 ≡ v = ap (λ (f : ℕ → ℕ). f i) e ∙ except-here (rmStateOf W) i v in
-          let out : getD W′ i 0 ≡ 0 = List·getD-eq-default W′ 0 (omega arith) in
-          absurd (omega arith)
-
-  changed : W′ ≡ set W i v
-  changed = ext-getD 0 W′ (set W i v) (size ∙ sym (length-set W i v)) (λ j h. ap (λ (f : ℕ → ℕ). f j) e ∙ there j)
-    where
-      there : (j : ℕ) → except (rmStateOf W) i v j ≡ getD (set W i v) j 0
-      there = except-cases (λ y u. u ≡ getD (set W i v) y 0) (rmStateOf W) i v (sym (getD-set-same W i v 0 stands))
-          (λ y other. sym (getD-set-other W i y v 0 other))
 
 pub step-words : (p : Plan) (W W′ : List ℕ) → length W′ ≡ length W → TCNext (isRM p) (rmStateOf W) (rmStateOf W′) → OneStep (p .rms) W W′
 step-words p W W′ size (i, rm, inl (works, e)) = (i, 1, rm, changed W W′ size i 1 (omega arith) e, inl (works, refl))
@@ -62,18 +42,6 @@ SafeInWords p t r =
     ((r .tables .states ≡ t .states) ⊎ OneStep (p .rms) (t .states) (r .tables .states))
     × ((i j : ℕ) → getD (r .tables .states) i 0 ≡ 2 → getD (r .tables .states) j 0 ≡ 3 → ⊥)
     × (r .answer ≡ refused 11 → ⊥)
-
--- a number at a place of W that is not 0 is one of W
-member-at : (W : List ℕ) (i v : ℕ) → 0 < v → getD W i 0 ≡ v → List·Memᴰ v W
-member-at [] i v some e = absurd (omega arith)
-member-at (x ∷ W) zero v some e = List·Memᴰ·head (sym e)
-member-at (x ∷ W) (suc i) v some e = List·Memᴰ·tail (member-at W i v some e)
-
--- what holds of each call implies what follows from it of each call
-each-of-each : (p : Plan) (P Q : Tables → RecordStep → Type 0) → ((t : Tables) (r : RecordStep) → P t r → Q t r)
-    → (t : Tables) (calls : List Call) → AfterEach p P t calls → AfterEach p Q t calls
-each-of-each p P Q next t [] h = tt
-each-of-each p P Q next t (c ∷ cs) h = (next t (made p t c) (h .0), each-of-each p P Q next (made p t c .tables) cs (h .1))
 
 pub safe-words : (p : Plan) (t : Tables) (r : RecordStep) → Safe p t r → SafeInWords p t r
 safe-words p t r safe = (

@@ -23,7 +23,8 @@ use Rattle.paxos_commit.specs.PaxosCommit.Safety.Histories.{inv-init}
 use Rattle.record.specs.Record.{zeroed}
 use Rattle.matching.specs.Reading.{isRM, isAcceptor, isMajoritySet, setOf}
 use Rattle.safety.specs.Grounds.Zeros.{getD-zeros, messages-zeros, aStateOf-zeros}
-use Rattle.apart.specs.Hosts.{Role, rm, acceptor, leader, System, Happening, call, delivery, restart, Made, made, called, sentBy, Genuine, published, Fresh, zeroHosts, systemAfter, answers, AllGenuine, Safe, AfterEach}
+use Rattle.apart.specs.Hosts.{Role, rm, acceptor, leader, System, Happening, call, delivery, restart, Made, made, called, sentBy, Genuine}
+use Rattle.apart.specs.Hosts.{published, Fresh, zeroHosts, systemAfter, answers, AllGenuine, Safe, AfterEach}
 use Rattle.apart.specs.Hosts.Tied.{Grounded}
 use Rattle.apart.specs.Hosts.Steps.{grounded-one, path-one, agreed-one, not-11-one}
 

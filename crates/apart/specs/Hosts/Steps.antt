@@ -33,7 +33,8 @@ use Rattle.matching.specs.Theorems.{majorities-meet}
 use Rattle.safety.specs.Grounds.Stored.{member-split}
 use Rattle.deliver.specs.Deliver.{Delivery, deliverStep}
 use Rattle.deliver.specs.Deliver.Laws.{delivered as delivered-is, deliver-keeps, deliver-not-11}
-use Rattle.apart.specs.Hosts.{Role, rm, acceptor, leader, System, Happening, call, delivery, restart, made, called, delivered, restarted, only, sentBy, OwnNumber, NotForged, TableKept, Genuine, row, published}
+use Rattle.apart.specs.Hosts.{Role, rm, acceptor, leader, System, Happening, call, delivery, restart, made, called, delivered, restarted, only}
+use Rattle.apart.specs.Hosts.{sentBy, OwnNumber, NotForged, TableKept, Genuine, row, published}
 use Rattle.apart.specs.Hosts.Tied.{Tied, Grounded, Allowed, Claim, claim-refused, claim-network}
 use Rattle.apart.specs.Hosts.Restart.{kept-reading}
 use Rattle.apart.specs.Hosts.Rm.{event-11, rm-claim, rm-not-11}

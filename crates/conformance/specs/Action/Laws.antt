@@ -24,7 +24,8 @@ use Rattle.matching.specs.Rm.{RMPrepare, RMChooseToAbort, RMRcvCommitMsg, RMRcv
 use Rattle.matching.specs.Acceptor.{Phase1bAction, Phase2bAction, InSlot}
 use Rattle.matching.specs.Leader.{Phase1aAction, Phase2aAction, CommitAction, AbortAction}
 use Rattle.conformance.specs.Record.{recordState, recordRows, Disabled, Acted}
-use Rattle.conformance.specs.Record.{prepares, chooses-to-abort, receives-commit, receives-abort, promises, casts-vote, receives, opens-ballot, proposes, commits, aborts}
+use Rattle.conformance.specs.Record.{prepares, chooses-to-abort, receives-commit, receives-abort, promises, casts-vote, receives, opens-ballot}
+use Rattle.conformance.specs.Record.{proposes, commits, aborts}
 use Rattle.conformance.specs.Action.{received, ActsOnSlot, Action, Copies}
 
 module _ (p : Plan) (t : Tables) (e : List ℕ) where

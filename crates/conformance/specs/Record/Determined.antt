@@ -30,7 +30,8 @@ use Rattle.matching.specs.Call.{roomOf, SlotHolds, Sends, Stores}
 use Rattle.matching.specs.Acceptor.{reportOf, InSlot}
 use Rattle.matching.specs.Leader.{proposed}
 use Rattle.conformance.specs.Record.{ownInbox, Acted}
-use Rattle.conformance.specs.Record.{prepares, chooses-to-abort, receives-commit, receives-abort, promises, casts-vote, receives, opens-ballot, proposes, commits, aborts}
+use Rattle.conformance.specs.Record.{prepares, chooses-to-abort, receives-commit, receives-abort, promises, casts-vote, receives, opens-ballot}
+use Rattle.conformance.specs.Record.{proposes, commits, aborts}
 
 pub stores-one : (p : Plan) (table : List ℕ) (m : Wire.Message) {u v : List ℕ} → Stores p table m u → Stores p table m v → u ≡ v
 stores-one p table m (inl (stood, same)) (inl (again, kept)) = same ∙ sym kept

@@ -33,7 +33,8 @@ use Rattle.matching.specs.Call.{HasRoom, Stores}
 use Rattle.matching.specs.Call.Laws.{member-at}
 use Rattle.matching.specs.Leader.{Phase2aAction, InboxFull}
 use Rattle.conformance.specs.Record.{recordState, ownInbox, Acted}
-use Rattle.conformance.specs.Record.{prepares, chooses-to-abort, receives-commit, receives-abort, promises, casts-vote, receives, opens-ballot, proposes, commits, aborts}
+use Rattle.conformance.specs.Record.{prepares, chooses-to-abort, receives-commit, receives-abort, promises, casts-vote, receives, opens-ballot}
+use Rattle.conformance.specs.Record.{proposes, commits, aborts}
 use Rattle.safety.specs.Grounds.{sentIn, seenBy, InvOf, Grounded}
 use Rattle.safety.specs.Grounds.Stored.{stores-length}
 use Rattle.safety.specs.Grounds.Inboxes.{grounded-same, grounded-inbox}

@@ -25,7 +25,8 @@ use Rattle.matching.specs.Leader.{Phase2aAction}
 use Rattle.conformance.specs.Record.{recordState, Acted}
 use Rattle.conformance.specs.Action.{ActsOnSlot, Action}
 use Rattle.conformance.specs.Action.Laws.{action-acted, copies-acted}
-use Rattle.conformance.specs.Record.{prepares, chooses-to-abort, receives-commit, receives-abort, promises, casts-vote, receives, opens-ballot, proposes, commits, aborts}
+use Rattle.conformance.specs.Record.{prepares, chooses-to-abort, receives-commit, receives-abort, promises, casts-vote, receives, opens-ballot}
+use Rattle.conformance.specs.Record.{proposes, commits, aborts}
 use Rattle.safety.specs.Grounds.{sentIn, seenBy, Unchanged, Grounded}
 
 -- an action of PCNext, of a kind that is not the receipt's; or a receipt

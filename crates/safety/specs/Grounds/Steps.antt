@@ -27,7 +27,8 @@ use Rattle.matching.specs.Call.{Sends}
 use Rattle.paxos_commit.specs.PaxosCommit.{State}
 use Rattle.conformance.specs.Record.{recordState, Acted}
 use Rattle.conformance.specs.Action.{Action}
-use Rattle.conformance.specs.Record.{prepares, chooses-to-abort, receives-commit, receives-abort, promises, casts-vote, receives, opens-ballot, proposes, commits, aborts}
+use Rattle.conformance.specs.Record.{prepares, chooses-to-abort, receives-commit, receives-abort, promises, casts-vote, receives, opens-ballot}
+use Rattle.conformance.specs.Record.{proposes, commits, aborts}
 use Rattle.conformance.specs.Theorems.{record-answers, record-keeps, record-acts, record-sound}
 use Rattle.safety.specs.Grounds.{Unchanged, Grounded}
 use Rattle.safety.specs.Grounds.Stored.{stores-slot}
