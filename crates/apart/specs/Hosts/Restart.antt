@@ -5,8 +5,8 @@
 -- Assumes nothing.
 use Prim.Native.Nat.{ℕ, zero, suc, _+_, _*_, _/_, _%_, _≤_}
 use mathlib.Core.List.{List, [], _∷_, _++_, map}
-use mathlib.Core.Logic.{_⊎_, inl, inr}
-use mathlib.Core.Path.{_≡_, refl, sym, _∙_, ap, fun-ext}
+use mathlib.Core.Logic.{inl, inr}
+use mathlib.Core.Path.{_≡_, refl, _∙_, ap, fun-ext}
 use native.Mathlib.Omega.{arith}
 use lib.ListN.{length, getD, take, drop, replicate, length-append, length-drop, length-replicate}
 use lib.Seq.{take-append-le, drop-append-le}
@@ -16,8 +16,8 @@ use Rattle.slots.specs.Table.{Slot, Unused, Used, Bad, slotSize, slotsUpTo, slo
 use Rattle.slots.specs.Table.Laws.{isZero-replicate}
 use Rattle.matching.specs.Reading.{rmStateOf, aStateOf}
 use Rattle.safety.specs.Grounds.Zeros.{getD-zeros, unused-zeros}
-use Rattle.apart.specs.Hosts.{Host, Longer, TableKept}
-use Rattle.apart.specs.Hosts.Tied.{Reading, readOf}
+use Rattle.apart.specs.Hosts.{Host, TableKept}
+use Rattle.apart.specs.Hosts.Tied.{readOf}
 
 pub getD-longer : (t : List ℕ) (n i : ℕ) → _≡_ {A = ℕ} (getD (t ++ replicate n 0) i 0) (getD t i 0)
 getD-longer [] n i = getD-zeros n i
