@@ -12,7 +12,7 @@
 //     tell, tell_parts, tell_fresh    the record opened, and its tables
 //     narrate                         the plan and the events of an input, as in the rehearsal
 //
-// What is said goes to a place of a lent buffer, and each `say_` answers where it ends. Input and text are `rehearsal_format`, the calls
+// What is said goes to a place of a lent buffer, and each `say_` answers where it ends. Input is `rehearsal_input`, text `rehearsal_text`, the calls
 // `opening::open`, `record::step` and `ending::ending_of`, the system `console`. Each function here is proved to be safe and to end; none
 // has a contract on what it says. Assumes nothing of its own.
 ghost use Prim.Native.Nat.{min};
@@ -26,9 +26,9 @@ use message::Plan;
 use message::Read;
 use message::SLOT_SIZE;
 use message::Vote;
-use rehearsal_format::MAX_INPUT;
-use rehearsal_format::PlanRead;
-use rehearsal_format::put_words;
+use rehearsal_input::MAX_INPUT;
+use rehearsal_input::PlanRead;
+use rehearsal_text::put_words;
 use slots::MAX_SLOTS;
 use tcommit::RmState;
 
@@ -358,10 +358,10 @@ fn tell_events(
     events: &[u8],
     output: &mut [u8],
 ) -> bool {
-    let count = rehearsal_format::event_count(events);
+    let count = rehearsal_input::event_count(events);
     let mut made: usize = 0;
     while made < count {
-        let event = rehearsal_format::event_at(events, made);
+        let event = rehearsal_input::event_at(events, made);
         made += 1;
         let at = tell_event(plan, states, votes, network, inboxes, event, output, made);
         if !written(output, at) {
@@ -395,7 +395,7 @@ fn tell(
     if !tell_events(plan, states, votes, network, inboxes, events, output) {
         return false;
     }
-    let at = rehearsal_format::put_ending(output, 0, ending::ending_of(states));
+    let at = rehearsal_text::put_ending(output, 0, ending::ending_of(states));
     written(output, at)
 }
 
@@ -448,9 +448,9 @@ fn tell_fresh(plan: Plan, events: &[u8], output: &mut [u8]) -> bool {
 // Says the history that an input tells, or the refusal of its plan: whether all was written. What is said of an event has fewer than
 // 4,096 bytes.
 fn narrate(input: &[u8], output: &mut [u8]) -> bool {
-    let begun = rehearsal_format::plan_in(input);
+    let begun = rehearsal_input::plan_in(input);
     match begun {
-        PlanRead::Given(plan) => tell_fresh(plan, rehearsal_format::events_in(input), output),
+        PlanRead::Given(plan) => tell_fresh(plan, rehearsal_input::events_in(input), output),
         PlanRead::Refused(number) => tell_refusal(output, number),
     }
 }

@@ -5,7 +5,7 @@
 ghost use mathlib.Core.Path.{_≡_};
 ghost use lib.ListN.{length};
 use console::Input;
-use rehearsal_format::MAX_INPUT;
+use rehearsal_input::MAX_INPUT;
 use rehearsing::MAX_OUTPUT;
 
 fn input_buffer() -> [u8; MAX_INPUT]

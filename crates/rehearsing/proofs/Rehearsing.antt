@@ -20,13 +20,13 @@ use Rattle.message.specs.Plan.Laws.{plan-bounds}
 use Rattle.slots.specs.Table.{isTableLength}
 use Rattle.record.specs.Record.{Tables, tablesOf, Opening, recordOpen}
 use Rattle.safety.specs.Theorems.{Call}
-use Rattle.rehearsal_format.specs.declared.PlanRead.{PlanRead}
-use Rattle.rehearsal_format.specs.declared.PlanRead.the-variants.{Given, Refused}
-use Rattle.rehearsal_format.specs.Input.{planIn, planOutcome, eventsIn}
-use Rattle.rehearsal_format.specs.Input.Laws.{planIn-is}
-use Rattle.rehearsal_format.specs.Text.{line, Put, putOf, put}
-use Rattle.rehearsal_format.specs.Text.Laws.{put-within}
-use Rattle.rehearsal_format.specs.Theorems.{events-count}
+use Rattle.rehearsal_input.specs.declared.PlanRead.{PlanRead}
+use Rattle.rehearsal_input.specs.declared.PlanRead.the-variants.{Given, Refused}
+use Rattle.rehearsal_input.specs.Input.{planIn, planOutcome, eventsIn}
+use Rattle.rehearsal_input.specs.Input.Laws.{planIn-is}
+use Rattle.rehearsal_input.specs.Theorems.{events-count}
+use Rattle.rehearsal_text.specs.Text.{line, Put, putOf, put}
+use Rattle.rehearsal_text.specs.Text.Laws.{put-within}
 use Rattle.rehearsing.specs.Rehearsal.{callsIn, freshTables, textOf, printedFor, rehearsed, rehearsal}
 use Rattle.rehearsing.specs.Rehearsal.Laws.{opens, rehearsed-length}
 

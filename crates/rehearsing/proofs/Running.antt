@@ -12,9 +12,9 @@ use Rattle.message.specs.Outcome.{numberOf}
 use Rattle.ending.specs.declared.Ending as EndingType
 use Rattle.ending.specs.Ending.{endingOf}
 use Rattle.record.specs.Record.{Tables, RecordStep, recordStep}
-use Rattle.rehearsal_format.specs.Input.{eventCount, eventAt}
-use Rattle.rehearsal_format.specs.Text.{line, wordOf, Put, put}
-use Rattle.rehearsal_format.specs.Text.Laws.{put-then}
+use Rattle.rehearsal_input.specs.Input.{eventCount, eventAt}
+use Rattle.rehearsal_text.specs.Text.{line, wordOf, Put, put}
+use Rattle.rehearsal_text.specs.Text.Laws.{put-then}
 use Rattle.rehearsing.specs.Rehearsal.{callsIn, textOf}
 use Rattle.rehearsing.specs.Rehearsal.Laws.{calls-next, calls-end, text-next, text-end}
 

@@ -25,8 +25,8 @@ use Rattle.leader.specs.Leader.{owns, leaderJudged, receiptStore, receipt, phas
 use Rattle.leader.specs.Leader.{leaderKind, leaderVerdict, leaderStep}
 use Rattle.ending.specs.Ending.{areAll, endingOf}
 use Rattle.record.specs.Record.{inboxSize, areLengths, inboxOf, withInbox, areInboxes, recordJudged, roleStep, recordStep}
-use Rattle.rehearsal_format.specs.Input.{planIn, eventsIn}
-use Rattle.rehearsal_format.specs.Text.{ascii, line}
+use Rattle.rehearsal_input.specs.Input.{planIn, eventsIn}
+use Rattle.rehearsal_text.specs.Text.{ascii, line}
 use Rattle.rehearsing.specs.Rehearsal.{callsIn, freshTables, textOf, printedFor, rehearsed}
 
 abbrev pub input-01 : List ℕ

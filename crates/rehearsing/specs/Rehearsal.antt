@@ -3,7 +3,7 @@
 --     linesOf, textOf          a line for each call of a list, and the word
 --     printedFor, rehearsed    what is printed
 --     rehearsal                what is printed, at the start of a lent buffer
--- The plan, the events' bytes, lines and words are those of rehearsal_format/specs. The laws are in Rehearsal/Laws.antt.
+-- The plan and the events' bytes are those of rehearsal_input/specs, lines and words of rehearsal_text/specs. The laws are in Rehearsal/Laws.antt.
 -- Assumes nothing.
 pub mod Laws
 use Prim.Native.Nat.{ℕ, zero, suc, _*_}
@@ -17,8 +17,8 @@ use Rattle.change.specs.declared.Sent.{Sent}
 use Rattle.ending.specs.Ending.{endingOf}
 use Rattle.record.specs.Record.{Tables, tablesOf}
 use Rattle.safety.specs.Theorems.{Call, event, answers, tablesAfter}
-use Rattle.rehearsal_format.specs.Input.{planIn, eventsIn}
-use Rattle.rehearsal_format.specs.Text.{line, wordOf, Put, putOf}
+use Rattle.rehearsal_input.specs.Input.{planIn, eventsIn}
+use Rattle.rehearsal_text.specs.Text.{line, wordOf, Put, putOf}
 
 -- "then events": at most so many, each the next four bytes; the last has fewer where it is cut
 unfoldable pub callsIn : ℕ → List ℕ → List Call

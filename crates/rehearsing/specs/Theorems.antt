@@ -19,10 +19,10 @@ use Rattle.slots.specs.Table.{isTableLength}
 use Rattle.ending.specs.Ending.{endingOf}
 use Rattle.record.specs.Record.{Tables, zeroed, recordOpen}
 use Rattle.safety.specs.Theorems.{Fresh, Call, answers, tablesAfter, never-11}
-use Rattle.rehearsal_format.specs.Input.{planOf, eventsIn}
-use Rattle.rehearsal_format.specs.Input.Laws.{planIn-short, planIn-bad, planIn-good, planIn-more}
-use Rattle.rehearsal_format.specs.Text.{ascii, line, wordOf}
-use Rattle.rehearsal_format.specs.Theorems.{rest-ignored as events-rest}
+use Rattle.rehearsal_input.specs.Input.{planOf, eventsIn}
+use Rattle.rehearsal_input.specs.Input.Laws.{planIn-short, planIn-bad, planIn-good, planIn-more}
+use Rattle.rehearsal_input.specs.Theorems.{rest-ignored as events-rest}
+use Rattle.rehearsal_text.specs.Text.{ascii, line, wordOf}
 use Rattle.rehearsing.specs.Rehearsal.{callsIn, freshTables, linesOf, textOf, printedFor, rehearsed}
 use Rattle.rehearsing.specs.Rehearsal.Laws.{calls-take, opens}
 

@@ -7,18 +7,18 @@
 //     run_fresh       those tables
 //     rehearse        the rehearsal
 //
-// Input and text are `rehearsal_format`, the calls `opening::open`, `record::step` and `ending::ending_of`. What is printed stands in
-// specs/. `rehearse` has no `requires`.
+// Input and text are `rehearsal_input` and `rehearsal_text`, the calls `opening::open`, `record::step` and `ending::ending_of`. What is
+// printed stands in specs/. `rehearse` has no `requires`.
 ghost use Prim.Native.Nat.{_≤_};
 ghost use mathlib.Core.Bool.{true};
 ghost use mathlib.Core.Path.{_≡_};
 ghost use lib.ListN.{length};
 ghost use Rattle.message.specs.Plan.{isPlan};
 ghost use Rattle.record.specs.Record.{tablesOf};
-ghost use Rattle.rehearsal_format.specs.Text.{putOf, put};
+ghost use Rattle.rehearsal_text.specs.Text.{putOf, put};
 ghost use Rattle.rehearsing.specs.Rehearsal.{callsIn, freshTables, textOf, rehearsal};
 use message::Plan;
-use rehearsal_format::PlanRead;
+use rehearsal_input::PlanRead;
 
 // Three bytes for each of 8,192 events, and the longest word.
 pub const MAX_OUTPUT: usize = 24586;
@@ -71,16 +71,16 @@ fn run_events(
         (tablesOf (now (states .entry)) (now (votes .entry)) (now (network .entry)) (now (inboxes .entry)))
         (callsIn 8192 (now (events .entry)))) (now (output .entry)) ⌝ }
 {
-    let count = rehearsal_format::event_count(events);
+    let count = rehearsal_input::event_count(events);
     let mut at: usize = 0;
     let mut made: usize = 0;
     while made < count {
-        let event = rehearsal_format::event_at(events, made);
+        let event = rehearsal_input::event_at(events, made);
         let answer = record::step(plan, states, votes, network, inboxes, event);
-        at = rehearsal_format::put_line(output, at, change::answer_number(answer));
+        at = rehearsal_text::put_line(output, at, change::answer_number(answer));
         made += 1;
     }
-    rehearsal_format::put_ending(output, at, ending::ending_of(states))
+    rehearsal_text::put_ending(output, at, ending::ending_of(states))
 }
 
 // Opens the record on parts of the tables, and makes the events.
@@ -146,9 +146,9 @@ pub fn rehearse(input: &[u8], output: &mut [u8]) -> usize
     if output.len() < MAX_OUTPUT {
         return 0;
     }
-    let begun = rehearsal_format::plan_in(input);
+    let begun = rehearsal_input::plan_in(input);
     match begun {
-        PlanRead::Given(plan) => run_fresh(plan, rehearsal_format::events_in(input), output),
-        PlanRead::Refused(number) => rehearsal_format::put_line(output, 0, number),
+        PlanRead::Given(plan) => run_fresh(plan, rehearsal_input::events_in(input), output),
+        PlanRead::Refused(number) => rehearsal_text::put_line(output, 0, number),
     }
 }

@@ -2,8 +2,8 @@
 use Prim.Native.Nat.{ℕ, _*_, _-_, _≤_}
 use mathlib.Core.List.{List}
 use Rattle.record.specs.Record.{tablesOf}
-use Rattle.rehearsal_format.specs.Input.{eventCount}
-use Rattle.rehearsal_format.specs.Text.{put}
+use Rattle.rehearsal_input.specs.Input.{eventCount}
+use Rattle.rehearsal_text.specs.Text.{put}
 use Rattle.rehearsing.proofs.Running.{run-step, run-end}
 use Rattle.rehearsing.specs.Rehearsal.{callsIn, textOf}
 use borrow.Author.Needs.{needs}

@@ -28,10 +28,10 @@ use Rattle.record.specs.Record.{Tables, inboxSize, areLengths, openJudged, zero
 use Rattle.conformance.specs.Record.{recordRows}
 use Rattle.conformance.specs.Theorems.{record-answers}
 use Rattle.safety.specs.Theorems.{Call, event, answers, tablesAfter}
-use Rattle.rehearsal_format.specs.Input.{planIn, eventsIn}
-use Rattle.rehearsal_format.specs.Input.Laws.{planIn-number}
-use Rattle.rehearsal_format.specs.Text.{line, wordOf}
-use Rattle.rehearsal_format.specs.Text.Laws.{line-length, word-length}
+use Rattle.rehearsal_input.specs.Input.{planIn, eventsIn}
+use Rattle.rehearsal_input.specs.Input.Laws.{planIn-number}
+use Rattle.rehearsal_text.specs.Text.{line, wordOf}
+use Rattle.rehearsal_text.specs.Text.Laws.{line-length, word-length}
 use Rattle.rehearsing.specs.Rehearsal.{callsIn, freshTables, linesOf, textOf, printedFor, rehearsed}
 
 -- the calls from a place on
