@@ -1,21 +1,28 @@
 // The rehearsal in words, for people: reads what the rehearsal reads (document 01, "The rehearsal"), and says for each event what was
 // tried, with the message that its slot holds, what the call answered, with the message that was sent, and the row of states afterwards.
-// Where a read or a write fails it says so on standard error, and stops.
+// Where a read or a write fails it says so on standard error, and writes no more.
 //
-//     say_number, say_with, say_both  a number, and words that lead to one or two
-//     say_value .. say_message        a message in words
-//     say_refusal                     a refusal by its name and number
-//     say_event                       what an event tries; an event's message is the one in its slot of N
-//     say_answer, say_row             what the call answered, and the states of all resource managers (document 01: weights)
-//     say_tried, say_outcome          what an event tries, with its number; what came of it
-//     tell_event, tell_events         an event and all events: what is said of an event is written at once
-//     tell, tell_parts, tell_fresh    the record opened, and its tables
-//     narrate                         the plan and the events of an input, as in the rehearsal
+//     ACTORS, DEEDS                       who an event is of, and what it tries
+//     TABLE_REFUSALS, EVENT_REFUSALS      the refusals by name
+//     STATES                              the states of a resource manager (document 01: weight)
+//     Text, no_text                       what is said so far, and that nothing is
+//     say_words, say_number, say          words, a number, a phrase
+//     say_vote .. say_message, say_slot   a message; a slot of N by its number, with the message in it
+//     say_hex, say_bytes, say_event       what an event tries, with its number
+//     say_refusal_name .. say_answer      what the call answered
+//     say_state, say_row                  the states of all resource managers
+//     say_outcome, say_ending             what came of an event; how the order stands
+//     write                               a text, on standard output
+//     tell_events, tell                   all events on a record; the record opened, and its tables
+//     narrate                             the plan and the events of an input, as in the rehearsal
 //
-// What is said goes to a place of a lent buffer, and each `say_` answers where it ends. Input is `rehearsal_input`, text `rehearsal_text`, the calls
-// `opening::open`, `record::step` and `ending::ending_of`, the system `console`. Each function here is proved to be safe and to end; none
-// has a contract on what it says. Assumes nothing of its own.
-ghost use Prim.Native.Nat.{min};
+// Phrases stand in one text with `|` between them, and are numbered from 0 on; past the last nothing is said. A digit in a phrase stands for
+// the byte at that place of an event, or of the fields that are given, as a number. Each `say` function answers the text that it was given with more at its
+// end. What is said of an event is written at once.
+//
+// Input and text are `rehearsal_input` and `rehearsal_text`, the calls `opening::open`, `record::step` and `ending::ending_of`, the system `console`. Each
+// function here is proved to be safe and to end; none has a contract on what it says. Assumes nothing of its own.
+ghost use Prim.Native.Nat.{_≤_, min};
 ghost use mathlib.Core.Path.{_≡_};
 ghost use lib.ListN.{length};
 use change::Answer;
@@ -28,9 +35,180 @@ use message::SLOT_SIZE;
 use message::Vote;
 use rehearsal_input::MAX_INPUT;
 use rehearsal_input::PlanRead;
-use rehearsal_text::put_words;
 use slots::MAX_SLOTS;
-use tcommit::RmState;
+
+// Who an event is of, and what it tries, by its kind; where it takes a slot, that is said next.
+const ACTORS: [u8; 82] =
+    *b"weight 1|weight 1|weight 1|acceptor 1|leader 1|leader 1|leader 1|leader 1|leader 1";
+
+const DEEDS: [u8; 177] =
+    *b" prepares| chooses to abort| takes slot | takes slot | takes into its inbox slot | begins ballot 3 for weight 2| proposes at ballot 3 for weight 2| decides Commit| decides Abort";
+
+// What document 01's table of refusals calls the numbers from 1 on, of the plan and the tables, and those from 7 on, of the event.
+const TABLE_REFUSALS: [u8; 153] =
+    *b"|plan out of range|lengths of the tables do not fit the plan|W holds a byte that is no state|Q holds a vote that is none|N is damaged|an inbox is damaged";
+
+const EVENT_REFUSALS: [u8; 172] =
+    *b"no event|the slot is unused or beyond N|the message is not for this role|ballot not owned|the decision contradicts the state|not enabled|N is full|the inbox is full|unknown";
+
+// The states of a resource manager, as W has them.
+const STATES: [u8; 47] = *b" working| prepared| committed| aborted| unknown";
+
+// More than is said of one event, which has fewer than 400 bytes.
+const TEXT_SIZE: usize = 512;
+
+// What is said: the first bytes of a buffer.
+struct Text {
+    bytes: [u8; TEXT_SIZE],
+    end: usize,
+}
+
+fn no_text() -> Text {
+    let bytes = [0; TEXT_SIZE];
+    Text { bytes, end: 0 }
+}
+
+fn say_words(text: Text, words: &[u8]) -> Text {
+    let mut bytes = text.bytes;
+    let end = rehearsal_text::put_words(&mut bytes, text.end, words);
+    Text { bytes, end }
+}
+
+fn say_number(text: Text, number: u64) -> Text {
+    let mut digits = [0u8; 20];
+    let count = io::decimal(number, &mut digits);
+    say_words(text, &digits[..count])
+}
+
+// A byte of a phrase, where the phrase is the chosen one.
+fn say_byte(text: Text, chosen: bool, byte: u8, bytes: &[u8]) -> Text {
+    if !chosen {
+        return text;
+    }
+    match byte {
+        b'|' => text,
+        b'0'..=b'9' => say_number(text, message::byte_at(bytes, (byte - b'0') as usize) as u64),
+        _ => say_words(text, &[byte]),
+    }
+}
+
+// How many phrases end at a byte.
+fn ends(byte: u8) -> usize
+    ensures { λ r. ⌜ r ≤ 1 ⌝ }
+{
+    if byte == b'|' { 1 } else { 0 }
+}
+
+// The phrase of a number, with the bytes that its digits stand for.
+fn say(text: Text, phrases: &[u8], which: usize, bytes: &[u8]) -> Text {
+    let mut text = text;
+    let mut phrase: usize = 0;
+    let mut i: usize = 0;
+    while i < phrases.len() {
+        let byte = phrases[i];
+        text = say_byte(text, phrase == which, byte, bytes);
+        phrase += ends(byte);
+        i += 1;
+    }
+    text
+}
+
+// What a promise reports.
+fn say_vote(text: Text, vote: Vote) -> Text {
+    match vote {
+        Vote::None => say_words(text, b"no vote"),
+        Vote::Cast { bal, val } => say(text, b"|prepared at 0|aborted at 0", val as usize, &[bal]),
+    }
+}
+
+fn say_1b(text: Text, ins: u8, acc: u8, mbal: u8, vote: Vote) -> Text {
+    let text = say(
+        text,
+        b"acceptor 0 promises ballot 1 for weight 2, reports ",
+        0,
+        &[acc, mbal, ins],
+    );
+    say_vote(text, vote)
+}
+
+// A message; a value is 1, prepared, or 2, aborted.
+fn say_message(text: Text, m: Message) -> Text {
+    match m {
+        Message::Phase1a { ins, bal } => say(
+            text,
+            b"call for promises of ballot 0 for weight 1",
+            0,
+            &[bal, ins],
+        ),
+        Message::Phase1b {
+            ins,
+            acc,
+            mbal,
+            vote,
+        } => say_1b(text, ins, acc, mbal, vote),
+        Message::Phase2a { ins, bal, val } => say(
+            text,
+            b"|weight 0 is proposed as prepared at ballot 1|weight 0 is proposed as aborted at ballot 1",
+            val as usize,
+            &[ins, bal],
+        ),
+        Message::Phase2b { ins, acc, bal, val } => say(
+            text,
+            b"|acceptor 0 votes for weight 1 as prepared at ballot 2|acceptor 0 votes for weight 1 as aborted at ballot 2",
+            val as usize,
+            &[acc, ins, bal],
+        ),
+        Message::Decision { val } => say(
+            text,
+            b"|the decision is Commit|the decision is Abort",
+            val as usize,
+            b"",
+        ),
+    }
+}
+
+// The number of a slot of N, and the message in it, where there is one.
+fn say_slot(text: Text, plan: Plan, network: &[u8], slot: usize) -> Text {
+    let text = say_number(text, slot as u64);
+    let Read::Message(m) = slots::message_at(plan, network, slot) else {
+        return say_words(text, b", where no message is");
+    };
+    let text = say_words(text, b": ");
+    say_message(text, m)
+}
+
+fn say_hex(text: Text, byte: u8) -> Text {
+    let mut digits = [0u8; 16];
+    let count = io::hex(byte as u64, 2, &mut digits);
+    let text = say_words(text, b" ");
+    say_words(text, &digits[..count])
+}
+
+fn say_bytes(text: Text, bytes: &[u8]) -> Text {
+    let mut text = say_words(text, b"bytes");
+    let mut i: usize = 0;
+    while i < bytes.len() {
+        text = say_hex(text, bytes[i]);
+        i += 1;
+    }
+    text
+}
+
+// The event of a number, and what it tries; bytes that are no event are said as they are.
+fn say_event(number: usize, plan: Plan, network: &[u8], event: &[u8]) -> Text {
+    let text = say_number(no_text(), number as u64);
+    let text = say_words(text, b". ");
+    if !event::is_event(plan, event) {
+        return say_bytes(text, event);
+    }
+    let kind = message::byte_at(event, 0);
+    let text = say(text, &ACTORS, kind as usize, event);
+    let text = say(text, &DEEDS, kind as usize, event);
+    match kind {
+        2..=4 => say_slot(text, plan, network, event::slot_number(event)),
+        _ => text,
+    }
+}
 
 fn least(a: usize, b: usize) -> usize
     ensures { λ r. ⌜ r ≡ min a b ⌝ }
@@ -38,317 +216,78 @@ fn least(a: usize, b: usize) -> usize
     if a < b { a } else { b }
 }
 
-// The bytes of Q: three for each instance and acceptor.
-fn votes_length(rms: u8, acceptors: u8) -> usize {
-    3 * ((rms as usize) * (acceptors as usize))
-}
-
-fn say_number(output: &mut [u8], at: usize, number: u64) -> usize {
-    let mut digits = [0u8; 20];
-    let count = io::decimal(number, &mut digits);
-    put_words(output, at, &digits[..count])
-}
-
-// Words, and the number that they lead to.
-fn say_count(output: &mut [u8], at: usize, words: &[u8], number: u64) -> usize {
-    let at = put_words(output, at, words);
-    say_number(output, at, number)
-}
-
-fn say_with(output: &mut [u8], at: usize, words: &[u8], number: u8) -> usize {
-    say_count(output, at, words, number as u64)
-}
-
-// Words and a number, twice.
-fn say_both(
-    output: &mut [u8],
-    at: usize,
-    words: &[u8],
-    number: u8,
-    more: &[u8],
-    last: u8,
-) -> usize {
-    let at = say_with(output, at, words, number);
-    say_with(output, at, more, last)
-}
-
-fn say_value(output: &mut [u8], at: usize, val: u8) -> usize {
-    match val {
-        1 => put_words(output, at, b"prepared"),
-        _ => put_words(output, at, b"aborted"),
+fn say_refusal_name(text: Text, number: u8) -> Text {
+    let which = number as usize;
+    if which < 7 {
+        return say(text, &TABLE_REFUSALS, which, b"");
     }
+    say(text, &EVENT_REFUSALS, least(which - 7, 8), b"")
 }
 
-fn say_decision(output: &mut [u8], at: usize, val: u8) -> usize {
-    match val {
-        1 => put_words(output, at, b"the decision is Commit"),
-        _ => put_words(output, at, b"the decision is Abort"),
-    }
+fn say_refusal(text: Text, number: u8) -> Text {
+    let text = say_words(text, b"refused: ");
+    let text = say_refusal_name(text, number);
+    say(text, b" (0)", 0, &[number])
 }
 
-// Words, a value, and the ballot that other words lead to.
-fn say_valued(output: &mut [u8], at: usize, words: &[u8], val: u8, more: &[u8], bal: u8) -> usize {
-    let at = put_words(output, at, words);
-    let at = say_value(output, at, val);
-    say_with(output, at, more, bal)
-}
-
-fn say_vote(output: &mut [u8], at: usize, vote: Vote) -> usize {
-    match vote {
-        Vote::None => put_words(output, at, b", reports no vote"),
-        Vote::Cast { bal, val } => say_valued(output, at, b", reports ", val, b" at ", bal),
-    }
-}
-
-fn say_1b(output: &mut [u8], at: usize, ins: u8, acc: u8, mbal: u8, vote: Vote) -> usize {
-    let at = say_both(output, at, b"acceptor ", acc, b" promises ballot ", mbal);
-    let at = say_with(output, at, b" for weight ", ins);
-    say_vote(output, at, vote)
-}
-
-fn say_2a(output: &mut [u8], at: usize, ins: u8, bal: u8, val: u8) -> usize {
-    let at = say_with(output, at, b"weight ", ins);
-    say_valued(output, at, b" is proposed as ", val, b" at ballot ", bal)
-}
-
-fn say_2b(output: &mut [u8], at: usize, ins: u8, acc: u8, bal: u8, val: u8) -> usize {
-    let at = say_both(output, at, b"acceptor ", acc, b" votes for weight ", ins);
-    say_valued(output, at, b" as ", val, b" at ballot ", bal)
-}
-
-fn say_message(output: &mut [u8], at: usize, m: Message) -> usize {
-    match m {
-        Message::Phase1a { ins, bal } => say_both(
-            output,
-            at,
-            b"call for promises of ballot ",
-            bal,
-            b" for weight ",
-            ins,
-        ),
-        Message::Phase1b {
-            ins,
-            acc,
-            mbal,
-            vote,
-        } => say_1b(output, at, ins, acc, mbal, vote),
-        Message::Phase2a { ins, bal, val } => say_2a(output, at, ins, bal, val),
-        Message::Phase2b { ins, acc, bal, val } => say_2b(output, at, ins, acc, bal, val),
-        Message::Decision { val } => say_decision(output, at, val),
-    }
-}
-
-// A slot of N and the message in it, where there is one.
-fn say_slot(output: &mut [u8], at: usize, plan: Plan, network: &[u8], slot: usize) -> usize {
-    let at = say_count(output, at, b"slot ", slot as u64);
-    let Read::Message(m) = slots::message_at(plan, network, slot) else {
-        return put_words(output, at, b", where no message is");
-    };
-    let at = put_words(output, at, b": ");
-    say_message(output, at, m)
-}
-
-// What document 01's table of refusals calls each number that the record's calls answer.
-fn say_refusal_name(output: &mut [u8], at: usize, number: u8) -> usize {
-    match number {
-        1 => put_words(output, at, b"plan out of range"),
-        2 => put_words(output, at, b"lengths of the tables do not fit the plan"),
-        3 => put_words(output, at, b"W holds a byte that is no state"),
-        4 => put_words(output, at, b"Q holds a vote that is none"),
-        5 => put_words(output, at, b"N is damaged"),
-        6 => put_words(output, at, b"an inbox is damaged"),
-        7 => put_words(output, at, b"no event"),
-        8 => put_words(output, at, b"the slot is unused or beyond N"),
-        9 => put_words(output, at, b"the message is not for this role"),
-        10 => put_words(output, at, b"ballot not owned"),
-        11 => put_words(output, at, b"the decision contradicts the state"),
-        12 => put_words(output, at, b"not enabled"),
-        13 => put_words(output, at, b"N is full"),
-        14 => put_words(output, at, b"the inbox is full"),
-        _ => put_words(output, at, b"unknown"),
-    }
-}
-
-fn say_refusal(output: &mut [u8], at: usize, number: u8) -> usize {
-    let at = put_words(output, at, b"refused: ");
-    let at = say_refusal_name(output, at, number);
-    let at = say_with(output, at, b" (", number);
-    put_words(output, at, b")")
-}
-
-// Words, and the slot that an event names.
-fn say_taken(
-    output: &mut [u8],
-    at: usize,
-    words: &[u8],
-    plan: Plan,
-    network: &[u8],
-    event: &[u8],
-) -> usize {
-    let at = put_words(output, at, words);
-    say_slot(output, at, plan, network, event::slot_number(event))
-}
-
-// Kinds 0, 1 and 2.
-fn say_rm_event(output: &mut [u8], at: usize, plan: Plan, network: &[u8], event: &[u8]) -> usize {
-    let at = say_with(output, at, b"weight ", message::byte_at(event, 1));
-    match message::byte_at(event, 0) {
-        0 => put_words(output, at, b" prepares"),
-        1 => put_words(output, at, b" chooses to abort"),
-        _ => say_taken(output, at, b" takes ", plan, network, event),
-    }
-}
-
-// Kind 3.
-fn say_acceptor_event(
-    output: &mut [u8],
-    at: usize,
-    plan: Plan,
-    network: &[u8],
-    event: &[u8],
-) -> usize {
-    let at = say_with(output, at, b"acceptor ", message::byte_at(event, 1));
-    say_taken(output, at, b" takes ", plan, network, event)
-}
-
-// Words, and the ballot and the instance of kinds 5 and 6.
-fn say_ballot(output: &mut [u8], at: usize, words: &[u8], event: &[u8]) -> usize {
-    let bal = message::byte_at(event, 3);
-    let ins = message::byte_at(event, 2);
-    say_both(output, at, words, bal, b" for weight ", ins)
-}
-
-// Kinds 4 to 8.
-fn say_leader_event(
-    output: &mut [u8],
-    at: usize,
-    plan: Plan,
-    network: &[u8],
-    event: &[u8],
-) -> usize {
-    let at = say_with(output, at, b"leader ", message::byte_at(event, 1));
-    match message::byte_at(event, 0) {
-        4 => say_taken(output, at, b" takes into its inbox ", plan, network, event),
-        5 => say_ballot(output, at, b" begins ballot ", event),
-        6 => say_ballot(output, at, b" proposes at ballot ", event),
-        7 => put_words(output, at, b" decides Commit"),
-        _ => put_words(output, at, b" decides Abort"),
-    }
-}
-
-fn say_hex(output: &mut [u8], at: usize, byte: u8) -> usize {
-    let mut digits = [0u8; 16];
-    let count = io::hex(byte as u64, 2, &mut digits);
-    let at = put_words(output, at, b" ");
-    put_words(output, at, &digits[..count])
-}
-
-fn say_bytes(output: &mut [u8], at: usize, bytes: &[u8]) -> usize {
-    let mut end = at;
-    let mut i: usize = 0;
-    while i < bytes.len() {
-        end = say_hex(output, end, bytes[i]);
-        i += 1;
-    }
-    end
-}
-
-// What an event tries; bytes that are no event are said as they are.
-fn say_event(output: &mut [u8], at: usize, plan: Plan, network: &[u8], event: &[u8]) -> usize {
-    if !event::is_event(plan, event) {
-        let at = put_words(output, at, b"bytes");
-        return say_bytes(output, at, event);
-    }
-    match message::byte_at(event, 0) {
-        0 | 1 | 2 => say_rm_event(output, at, plan, network, event),
-        3 => say_acceptor_event(output, at, plan, network, event),
-        _ => say_leader_event(output, at, plan, network, event),
-    }
-}
-
-fn say_sent(output: &mut [u8], at: usize, plan: Plan, network: &[u8], sent: Sent) -> usize {
-    let at = put_words(output, at, b"accepted");
+fn say_sent(text: Text, plan: Plan, network: &[u8], sent: Sent) -> Text {
+    let text = say_words(text, b"accepted");
     match sent {
         Sent::Slot(slot) => {
-            let at = put_words(output, at, b", stands in ");
-            say_slot(output, at, plan, network, slot)
+            let text = say_words(text, b", stands in slot ");
+            say_slot(text, plan, network, slot)
         }
-        Sent::Quiet => at,
+        Sent::Quiet => text,
     }
 }
 
-fn say_answer(output: &mut [u8], at: usize, plan: Plan, network: &[u8], answer: Answer) -> usize {
+fn say_answer(text: Text, plan: Plan, network: &[u8], answer: Answer) -> Text {
     match answer {
-        Answer::Accepted(sent) => say_sent(output, at, plan, network, sent),
-        Answer::Refused(number) => say_refusal(output, at, number),
+        Answer::Accepted(sent) => say_sent(text, plan, network, sent),
+        Answer::Refused(number) => say_refusal(text, number),
     }
 }
 
-fn say_state(output: &mut [u8], at: usize, state: u8) -> usize {
-    match state {
-        RmState::WORKING => put_words(output, at, b" working"),
-        RmState::PREPARED => put_words(output, at, b" prepared"),
-        RmState::COMMITTED => put_words(output, at, b" committed"),
-        RmState::ABORTED => put_words(output, at, b" aborted"),
-        _ => put_words(output, at, b" unknown"),
-    }
+fn say_state(text: Text, state: u8) -> Text {
+    say(text, &STATES, least(state as usize, 4), b"")
 }
 
-fn say_row(output: &mut [u8], at: usize, states: &[u8]) -> usize {
-    let mut end = put_words(output, at, b"weights:");
+fn say_row(text: Text, states: &[u8]) -> Text {
+    let mut text = say_words(text, b"weights:");
     let mut i: usize = 0;
     while i < states.len() {
-        end = say_state(output, end, states[i]);
+        text = say_state(text, states[i]);
         i += 1;
     }
-    end
+    text
 }
 
-// The event of a number, and what it tries.
-fn say_tried(output: &mut [u8], number: usize, plan: Plan, network: &[u8], event: &[u8]) -> usize {
-    let at = say_number(output, 0, number as u64);
-    let at = put_words(output, at, b". ");
-    let at = say_event(output, at, plan, network, event);
-    put_words(output, at, b"\n    ")
+// What was answered, and the row afterwards, each on a line of its own.
+fn say_outcome(text: Text, plan: Plan, network: &[u8], answer: Answer, states: &[u8]) -> Text {
+    let text = say_words(text, b"\n    ");
+    let text = say_answer(text, plan, network, answer);
+    let text = say_words(text, b"\n    ");
+    let text = say_row(text, states);
+    say_words(text, b"\n")
 }
 
-// What was answered, and the row afterwards.
-fn say_outcome(
-    output: &mut [u8],
-    at: usize,
-    plan: Plan,
-    network: &[u8],
-    answer: Answer,
-    states: &[u8],
-) -> usize {
-    let at = say_answer(output, at, plan, network, answer);
-    let at = put_words(output, at, b"\n    ");
-    let at = say_row(output, at, states);
-    put_words(output, at, b"\n")
+fn say_ending(states: &[u8]) -> Text {
+    let mut bytes = [0; TEXT_SIZE];
+    let end = rehearsal_text::put_ending(&mut bytes, 0, ending::ending_of(states));
+    Text { bytes, end }
 }
 
-// Makes the event of a number on the record, and says what was tried and what came of it.
-fn tell_event(
-    plan: Plan,
-    states: &mut [u8],
-    votes: &mut [u8],
-    network: &mut [u8],
-    inboxes: &mut [u8],
-    event: &[u8],
-    output: &mut [u8],
-    number: usize,
-) -> usize {
-    let at = say_tried(output, number, plan, network, event);
-    let answer = record::step(plan, states, votes, network, inboxes, event);
-    say_outcome(output, at, plan, network, answer, states)
+// Writes a text, unless one before could not be written: whether all is written.
+fn write(written: bool, text: Text) -> bool {
+    if !written {
+        return false;
+    }
+    let bytes = text.bytes;
+    let end = text.end;
+    end <= console::print(&bytes, end)
 }
 
-// Whether the first bytes of the buffer were all written.
-fn written(output: &[u8], count: usize) -> bool {
-    count <= console::print(output, count)
-}
-
-// Makes each event, with its number from 1 on: whether all was written. It stops where a write fails.
+// Makes each event, with its number from 1 on, and writes what is said of it: whether all is written.
 fn tell_events(
     plan: Plan,
     states: &mut [u8],
@@ -356,108 +295,67 @@ fn tell_events(
     network: &mut [u8],
     inboxes: &mut [u8],
     events: &[u8],
-    output: &mut [u8],
 ) -> bool {
     let count = rehearsal_input::event_count(events);
+    let mut written = true;
     let mut made: usize = 0;
     while made < count {
         let event = rehearsal_input::event_at(events, made);
         made += 1;
-        let at = tell_event(plan, states, votes, network, inboxes, event, output, made);
-        if !written(output, at) {
-            return false;
-        }
+        let tried = say_event(made, plan, network, event);
+        let answer = record::step(plan, states, votes, network, inboxes, event);
+        let text = say_outcome(tried, plan, network, answer, states);
+        written = write(written, text);
     }
-    true
+    written
 }
 
-// Says a refusal alone: whether it was written.
-fn tell_refusal(output: &mut [u8], number: u8) -> bool {
-    let at = say_refusal(output, 0, number);
-    let at = put_words(output, at, b"\n");
-    written(output, at)
+// The bytes of Q: three for each instance and acceptor.
+fn votes_length(rms: u8, acceptors: u8) -> usize {
+    3 * ((rms as usize) * (acceptors as usize))
 }
 
-// Opens the record, makes the events, and says how the order stands: whether all was written.
-fn tell(
-    plan: Plan,
-    states: &mut [u8],
-    votes: &mut [u8],
-    network: &mut [u8],
-    inboxes: &mut [u8],
-    events: &[u8],
-    output: &mut [u8],
-) -> bool {
-    let number = change::judged_number(opening::open(plan, states, votes, network, inboxes));
-    if number != 0 {
-        return tell_refusal(output, number);
-    }
-    if !tell_events(plan, states, votes, network, inboxes, events, output) {
-        return false;
-    }
-    let at = rehearsal_text::put_ending(output, 0, ending::ending_of(states));
-    written(output, at)
-}
-
-// Lends parts of the buffers as the record's tables; they are long enough for every plan in range.
-fn tell_parts(
-    plan: Plan,
-    states: &mut [u8],
-    votes: &mut [u8],
-    network: &mut [u8],
-    inboxes: &mut [u8],
-    events: &[u8],
-    output: &mut [u8],
-) -> bool {
-    let states_end = least(plan.rms as usize, states.len());
-    let votes_end = least(votes_length(plan.rms, plan.acceptors), votes.len());
-    let network_end = least(SLOT_SIZE * MAX_SLOTS, network.len());
-    let inboxes_end = least(SLOT_SIZE * MAX_SLOTS * plan.leaders as usize, inboxes.len());
+// Opens a record, makes the events, and writes how the order stands: whether all is written. The tables are parts of buffers that are long
+// enough for every plan in range, so that opening refuses none.
+fn tell(plan: Plan, events: &[u8]) -> bool {
+    let mut states = io::buffer();
+    let mut votes = io::buffer();
+    let mut network = io::large_buffer();
+    let mut inboxes = io::large_buffer();
+    let states_end = plan.rms as usize;
+    let votes_end = least(votes_length(plan.rms, plan.acceptors), 4096);
+    let network_end = SLOT_SIZE * MAX_SLOTS;
+    let inboxes_end = least(SLOT_SIZE * MAX_SLOTS * plan.leaders as usize, 65536);
     let states_part = &mut states[..states_end];
     let votes_part = &mut votes[..votes_end];
     let network_part = &mut network[..network_end];
     let inboxes_part = &mut inboxes[..inboxes_end];
-    tell(
+    opening::open(plan, states_part, votes_part, network_part, inboxes_part);
+    let written = tell_events(
         plan,
         states_part,
         votes_part,
         network_part,
         inboxes_part,
         events,
-        output,
-    )
+    );
+    write(written, say_ending(states_part))
 }
 
-// Makes the events on tables of its own: whether all was written.
-fn tell_fresh(plan: Plan, events: &[u8], output: &mut [u8]) -> bool {
-    let mut states = io::buffer();
-    let mut votes = io::buffer();
-    let mut network = io::large_buffer();
-    let mut inboxes = io::large_buffer();
-    tell_parts(
-        plan,
-        &mut states,
-        &mut votes,
-        &mut network,
-        &mut inboxes,
-        events,
-        output,
-    )
-}
-
-// Says the history that an input tells, or the refusal of its plan: whether all was written. What is said of an event has fewer than
-// 4,096 bytes.
-fn narrate(input: &[u8], output: &mut [u8]) -> bool {
+// Tells the history of an input, or the refusal of its plan: whether all is written.
+fn narrate(input: &[u8]) -> bool {
     let begun = rehearsal_input::plan_in(input);
     match begun {
-        PlanRead::Given(plan) => tell_fresh(plan, rehearsal_input::events_in(input), output),
-        PlanRead::Refused(number) => tell_refusal(output, number),
+        PlanRead::Given(plan) => tell(plan, rehearsal_input::events_in(input)),
+        PlanRead::Refused(number) => {
+            let text = say_refusal(no_text(), number);
+            write(true, say_words(text, b"\n"))
+        }
     }
 }
 
 fn print(input: &[u8]) {
-    let mut output = io::buffer();
-    if !narrate(input, &mut output) {
+    if !narrate(input) {
         console::complain(b"narration: standard output can't be written\n");
     }
 }

@@ -2,15 +2,20 @@
 use Prim.Native.Nat.{_≤_, _-_}
 use borrow.Author.Needs.{needs}
 use lib.ListN.{length}
-use mathlib.Core.Path.{_≡_}
 use Rattle.narration.proofs.say_bytes.Statement.{statement}
 use Rattle.narration.proofs.say_bytes.Tie as tie
 
 abbrev Inv-loop : tie.InvT-loop
-Inv-loop output₀ at bytes end₀ i₀ output end i = (i ≤ length bytes) × (length output ≡ length output₀)
+Inv-loop bytes text₀ i₀ text i = i ≤ length bytes
 
 abbrev μ-loop : tie.MeasureT-loop
-μ-loop output₀ at bytes end₀ i₀ output end i = length bytes - i
+μ-loop bytes text₀ i₀ text i = length bytes - i
+
+slice-aggregate-say-words : tie.Need-slice-aggregate-say-words Inv-loop μ-loop
+slice-aggregate-say-words c = search needs
+
+say-words-requires : tie.Need-say-words-requires Inv-loop μ-loop
+say-words-requires c κs = tt
 
 loop-holds : tie.Need-loop-holds Inv-loop μ-loop
 loop-holds c = search needs
@@ -30,9 +35,6 @@ loop-less c = search needs
 loop-again : tie.Need-loop-again Inv-loop μ-loop
 loop-again c = search needs
 
-same-length : tie.Need-same-length Inv-loop μ-loop
-same-length c = search needs
-
 returns : tie.Need-returns Inv-loop μ-loop
 returns c = search needs
 
@@ -42,11 +44,12 @@ say-bytes-spec =
     (tie.spec
     Inv-loop
     μ-loop
+    slice-aggregate-say-words
+    say-words-requires
     loop-holds
     shared-slice-read-say-hex
     say-hex-requires
     add-i
     loop-less
     loop-again
-    same-length
     returns)

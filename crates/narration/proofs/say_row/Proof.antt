@@ -2,21 +2,20 @@
 use Prim.Native.Nat.{_≤_, _-_}
 use borrow.Author.Needs.{needs}
 use lib.ListN.{length}
-use mathlib.Core.Path.{_≡_}
 use Rattle.narration.proofs.say_row.Statement.{statement}
 use Rattle.narration.proofs.say_row.Tie as tie
 
 abbrev Inv-loop : tie.InvT-loop
-Inv-loop output₀ at states end₀ i₀ output end i = (i ≤ length states) × (length output ≡ length output₀)
+Inv-loop states text₀ i₀ text i = i ≤ length states
 
 abbrev μ-loop : tie.MeasureT-loop
-μ-loop output₀ at states end₀ i₀ output end i = length states - i
+μ-loop states text₀ i₀ text i = length states - i
 
-slice-aggregate-put-words : tie.Need-slice-aggregate-put-words Inv-loop μ-loop
-slice-aggregate-put-words c = search needs
+slice-aggregate-say-words : tie.Need-slice-aggregate-say-words Inv-loop μ-loop
+slice-aggregate-say-words c = search needs
 
-put-words-requires : tie.Need-put-words-requires Inv-loop μ-loop
-put-words-requires c κs = tt
+say-words-requires : tie.Need-say-words-requires Inv-loop μ-loop
+say-words-requires c κs = tt
 
 loop-holds : tie.Need-loop-holds Inv-loop μ-loop
 loop-holds c = search needs
@@ -36,9 +35,6 @@ loop-less c = search needs
 loop-again : tie.Need-loop-again Inv-loop μ-loop
 loop-again c = search needs
 
-same-length : tie.Need-same-length Inv-loop μ-loop
-same-length c = search needs
-
 returns : tie.Need-returns Inv-loop μ-loop
 returns c = search needs
 
@@ -48,13 +44,12 @@ say-row-spec =
     (tie.spec
     Inv-loop
     μ-loop
-    slice-aggregate-put-words
-    put-words-requires
+    slice-aggregate-say-words
+    say-words-requires
     loop-holds
     shared-slice-read-say-state
     say-state-requires
     add-i
     loop-less
     loop-again
-    same-length
     returns)

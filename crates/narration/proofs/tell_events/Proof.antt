@@ -1,4 +1,4 @@
--- `narration::tell_events` is safe and ends: the events are counted, and the tables and the buffer keep their lengths. Assumes nothing.
+-- `narration::tell_events` is safe and ends: the events are counted, and the tables keep their lengths. Assumes nothing.
 use Prim.Native.Nat.{_≤_, _-_}
 use borrow.Author.Needs.{needs}
 use lib.ListN.{length}
@@ -7,16 +7,15 @@ use Rattle.narration.proofs.tell_events.Statement.{statement}
 use Rattle.narration.proofs.tell_events.Tie as tie
 
 abbrev Inv-loop : tie.InvT-loop
-Inv-loop plan states₀ votes₀ network₀ inboxes₀ events output₀ count made₀ states votes network inboxes output made =
+Inv-loop plan states₀ votes₀ network₀ inboxes₀ events count written₀ made₀ states votes network inboxes written made =
     (made ≤ count)
     × (length states ≡ length states₀)
     × (length votes ≡ length votes₀)
     × (length network ≡ length network₀)
     × (length inboxes ≡ length inboxes₀)
-    × (length output ≡ length output₀)
 
 abbrev μ-loop : tie.MeasureT-loop
-μ-loop plan states₀ votes₀ network₀ inboxes₀ events output₀ count made₀ states votes network inboxes output made = count - made
+μ-loop plan states₀ votes₀ network₀ inboxes₀ events count written₀ made₀ states votes network inboxes written made = count - made
 
 event-count-requires : tie.Need-event-count-requires Inv-loop μ-loop
 event-count-requires c κs = tt
@@ -30,11 +29,23 @@ event-at-requires c κs = tt
 add-made : tie.Need-add-made Inv-loop μ-loop
 add-made c = search needs
 
-tell-event-requires : tie.Need-tell-event-requires Inv-loop μ-loop
-tell-event-requires c κs = tt
+say-event-requires : tie.Need-say-event-requires Inv-loop μ-loop
+say-event-requires c κs = tt
 
-written-requires : tie.Need-written-requires Inv-loop μ-loop
-written-requires c κs = tt
+step-requires : tie.Need-step-requires Inv-loop μ-loop
+step-requires c κs = tt
+
+say-outcome-requires : tie.Need-say-outcome-requires Inv-loop μ-loop
+say-outcome-requires c κs = tt
+
+write-requires : tie.Need-write-requires Inv-loop μ-loop
+write-requires c κs = tt
+
+loop-less : tie.Need-loop-less Inv-loop μ-loop
+loop-less c = search needs
+
+loop-again : tie.Need-loop-again Inv-loop μ-loop
+loop-again c = search needs
 
 same-length : tie.Need-same-length Inv-loop μ-loop
 same-length c = search needs
@@ -48,35 +59,8 @@ same-length-3 c = search needs
 same-length-4 : tie.Need-same-length-4 Inv-loop μ-loop
 same-length-4 c = search needs
 
-same-length-5 : tie.Need-same-length-5 Inv-loop μ-loop
-same-length-5 c = search needs
-
 returns : tie.Need-returns Inv-loop μ-loop
 returns c = search needs
-
-loop-less : tie.Need-loop-less Inv-loop μ-loop
-loop-less c = search needs
-
-loop-again : tie.Need-loop-again Inv-loop μ-loop
-loop-again c = search needs
-
-same-length-6 : tie.Need-same-length-6 Inv-loop μ-loop
-same-length-6 c = search needs
-
-same-length-7 : tie.Need-same-length-7 Inv-loop μ-loop
-same-length-7 c = search needs
-
-same-length-8 : tie.Need-same-length-8 Inv-loop μ-loop
-same-length-8 c = search needs
-
-same-length-9 : tie.Need-same-length-9 Inv-loop μ-loop
-same-length-9 c = search needs
-
-same-length-10 : tie.Need-same-length-10 Inv-loop μ-loop
-same-length-10 c = search needs
-
-returns-2 : tie.Need-returns-2 Inv-loop μ-loop
-returns-2 c = search needs
 
 pub tell-events-spec : {M : Type 1} → statement M
 tell-events-spec =
@@ -88,19 +72,14 @@ tell-events-spec =
     loop-holds
     event-at-requires
     add-made
-    tell-event-requires
-    written-requires
+    say-event-requires
+    step-requires
+    say-outcome-requires
+    write-requires
+    loop-less
+    loop-again
     same-length
     same-length-2
     same-length-3
     same-length-4
-    same-length-5
-    returns
-    loop-less
-    loop-again
-    same-length-6
-    same-length-7
-    same-length-8
-    same-length-9
-    same-length-10
-    returns-2)
+    returns)
