@@ -5,9 +5,9 @@
     NAME.narration        what the narration prints
     NAME.narration-end    its last lines, where all would be long
 
-Histories that end COMMITTED, ABORTED and OPEN, leaders that compete, a bad and a cut plan, a cut event, and each number that a
-rehearsal can print: 0, 1, 7, 8, 9, 10, 12 and 13. It can't print 14: a message stands in an inbox once, and in N too, and N has no more
-slots than an inbox; so where an inbox is full, it holds every message of N.
+Histories that end COMMITTED, ABORTED and OPEN, leaders that compete, a bad and a cut plan, a cut event, more events than are made,
+and each number that a rehearsal can print: 0, 1, 7, 8, 9, 10, 12 and 13. It can't print 14: a message stands in an inbox once, and in N
+too, and N has no more slots than an inbox; so where an inbox is full, it holds every message of N.
 """
 
 from calls import other, proposing, reading
@@ -114,6 +114,7 @@ STORIES = [
     ("full_network", full_network(), "OPEN"),
     ("cut_event", cut_event(), "ABORTED"),
     ("no_events", no_events(), "OPEN"),
+    ("limit", (bytes([1, 1, 1]), [other(0, 0)] + [other(1, 0)] * 8192), "OPEN"),
     ("bad_plan", (bytes([17, 1, 1]), [other(0, 0)]), "1"),
     ("cut_plan", (bytes([1, 1]), []), "1"),
     ("empty", (b"", []), "1"),
