@@ -1,7 +1,7 @@
 """The calls of the program crates/calls: how a call and its line are written, and the words in which the cases choose them.
 
-A call in the file stdin is ten bytes and three parts: which call (0 resource manager, 1 acceptor, 2 leader, 3 reader,
-4 writer), n, A, L, and the lengths of the three parts, two bytes each, the higher first; then the role's table, the network,
+A call in the file stdin is twelve bytes and three parts: which call (0 resource manager, 1 acceptor, 2 leader, 3 reader,
+4 writer), n, A, L, the order number in two bytes, and the lengths of the three parts, two bytes each, the higher first; then the role's table, the network,
 and the event. The reader has its slice in place of the event, and no tables; the writer six bytes, the message's kind (0 1a,
 1 and 2 a 1b without and with a vote, 3 2a, 4 2b, 5 decision) and ins, acc, mbal, bal and val. Its line in the file stdout:
 
@@ -13,10 +13,10 @@ and the event. The reader has its slice in place of the event, and no tables; th
     NUMBER BYTES LENGTH         the writer
 """
 
-from model import FIELDS, ROLES, SLOT, UNUSED, Message, Plan, decode, read, role_call, slot_of, write
+from model import FIELDS, ROLES, SLOT, UNUSED, Message, Plan, decode, plan_bytes, read, role_call, slot_of, write
 
 READER, WRITER = "reader", "writer"
-WRITTEN = [0x09, 0x07, 0x1F, 0x19, 0x1B, 0x10]          # the maps by the number of the writer's message
+WRITTEN = [0x29, 0x27, 0x3F, 0x39, 0x3B, 0x30]          # the maps by the number of the writer's message
 
 CALLS = []                                              # what is called, label, number, call in bytes, line
 SEEN = set()
@@ -25,7 +25,7 @@ SEEN = set()
 def add(what, label, number, plan, parts, line):
     which = [*ROLES, READER, WRITER].index(what)
     lengths = b"".join(len(part).to_bytes(2, "big") for part in parts)
-    text = bytes([which, *plan]) + lengths + b"".join(parts)
+    text = bytes([which]) + plan_bytes(plan) + lengths + b"".join(parts)
     if text not in SEEN:
         SEEN.add(text)
         CALLS.append((what, label, number, text, line))

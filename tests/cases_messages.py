@@ -3,7 +3,7 @@ plans at and past their limits, and two refusals at once.
 """
 
 from calls import WRITTEN, call_reader, call_writer
-from model import MAPS
+from model import MAPS, ORDER
 
 GOOD_PLANS = [(1, 1, 1), (16, 7, 4), (16, 1, 4), (1, 7, 1), (5, 3, 2), (2, 6, 3)]
 BAD_PLANS = [
@@ -17,13 +17,14 @@ MIDDLE = (5, 3, 2)
 
 def ends(plan):
     """Fields in range: the lowest (a ballot of 1, which a 1a may have too), and the highest."""
-    n, a, _ = plan
+    n, a, _ = plan[:3]
     return [0, 0, 0, 1, 1], [n - 1, a - 1, 255, 255, 2]
 
 
 def slice_of(first, fields):
-    """The first byte, and a byte for each field whose bit stands in it, in order."""
-    return bytes([first] + [x for bit, x in enumerate(fields) if first >> bit & 1])
+    """The first byte, a byte for each field whose bit stands in it, in order, and the order number."""
+    number = ORDER.to_bytes(2, "big") if first >> 5 & 1 else b""
+    return bytes([first] + [x for bit, x in enumerate(fields) if first >> bit & 1]) + number
 
 
 def with_field(fields, bit, value):
@@ -38,14 +39,15 @@ def both(label, plan, map_byte, fields, number=None):
 
 def examples():
     """The examples 1 to 6 of "Proved examples"."""
-    for text, number in (("19000001", 0), ("07000001", 0), ("00", 15), ("190000", 16), ("19000003", 17), ("090000", 17)):
+    for text, number in (("390000010102", 0), ("270000010102", 0), ("00", 15), ("3900000102", 16), ("390000030102", 17),
+                         ("2900000102", 17)):
         call_reader("example", (1, 1, 1), bytes.fromhex(text), number)
 
 
 def fields():
     """Each field of each message at and around the ranges, the others at the low or the high end of theirs."""
     for plan in GOOD_PLANS:
-        n, a, _ = plan
+        n, a, _ = plan[:3]
         for map_byte in WRITTEN:
             for bit in range(5):
                 if map_byte >> bit & 1:
@@ -54,7 +56,7 @@ def fields():
                         for end in ends(plan):
                             both("field", plan, map_byte, with_field(end, bit, value))
     # every value of an instance and of a value
-    for map_byte, bit in ((0x19, 0), (0x10, 4)):
+    for map_byte, bit in ((0x39, 0), (0x30, 4)):
         for value in range(256):
             call_reader("every value", MIDDLE, slice_of(map_byte, with_field(ends(MIDDLE)[1], bit, value)))
 
@@ -76,10 +78,10 @@ def first_bytes():
     for first in range(256):
         call_reader("first byte", MIDDLE, slice_of(first, [1, 1, 1, 1, 1]), 0 if first in MAPS else 15)
     choices = [[0] * 5, [255] * 5, *ends(MIDDLE), [0, 0, 0, 0, 1], [n, 0, 0, 1, 1], [0, a, 0, 1, 1], [0, 0, 0, 1, 3]]
-    for first in [*WRITTEN, 0x00, 0x01, 0x1E, 0x20, 0x39, 0xFF]:
-        for length in range(9):
+    for first in [*WRITTEN, 0x00, 0x01, 0x19, 0x1F, 0x20, 0x3E, 0x79, 0xFF]:
+        for length in range(11):
             for fields in choices if first in MAPS else choices[:3]:
-                call_reader("length", MIDDLE, (slice_of(first, fields) + bytes(8))[:length])
+                call_reader("length", MIDDLE, (slice_of(first, fields) + bytes(10))[:length])
 
 
 def long_slices():
@@ -90,7 +92,7 @@ def long_slices():
         call_reader("long", MIDDLE, message + bytes(256), 16)
         call_reader("long", MIDDLE, message * 2, 16)
     call_reader("long", MIDDLE, bytes(300), 15)
-    call_reader("long", MIDDLE, bytes([0x19]) + bytes(999), 16)
+    call_reader("long", MIDDLE, bytes([0x39]) + bytes(999), 16)
 
 
 def plans():
@@ -98,12 +100,12 @@ def plans():
     message = [4, 2, 0, 1, 1]
     for at in range(3):
         for value in [*range(20), 31, 32, 63, 64, 127, 128, 254, 255]:
-            call_reader("plan", MIDDLE[:at] + (value,) + MIDDLE[at + 1:], slice_of(0x1B, message))
+            call_reader("plan", MIDDLE[:at] + (value,) + MIDDLE[at + 1:], slice_of(0x3B, message))
         for value in (0, 1, 2, 3, 4, 5, 7, 8, 16, 17, 255):
             plan = MIDDLE[:at] + (value,) + MIDDLE[at + 1:]
-            for part in (b"", b"\x3b\4\2\1\1", b"\x1b\4\2\1\1\0", b"\x1b\4\2\1\3"):
+            for part in (b"", b"\x1b\4\2\1\1", b"\x3b\4\2\1\1\1\2\0", b"\x3b\4\2\1\3\1\2"):
                 call_reader("plan", plan, part)
-            for map_byte in (0x1B, 0x09, 0x10):
+            for map_byte in (0x3B, 0x29, 0x30):
                 call_writer("plan", plan, map_byte, message)
                 call_writer("plan", plan, map_byte, with_field(with_field(message, 3, 0), 4, 3))
     for plan in BAD_PLANS:
@@ -115,4 +117,20 @@ def plans():
         call_reader("bad plan", plan, b"\0", 1)
 
 
-SECTIONS = [examples, fields, two_fields, first_bytes, long_slices, plans]
+def orders():
+    """Order numbers at their ends, and a message of another: 18, and 17 where a field is out of range too."""
+    for order in (0, 1, 255, 256, 258, 0xFF00, 0xFFFF):
+        plan = (*MIDDLE, order)
+        for map_byte in WRITTEN:
+            for end in ends(MIDDLE):
+                part = slice_of(map_byte, end)[:-2]
+                call_writer("order", plan, map_byte, end, 0)
+                for number in (order, order ^ 1, order ^ 0x100, order ^ 0x8000, (order & 255) * 256 + order // 256):
+                    call_reader("order", plan, part + number.to_bytes(2, "big"), 0 if number == order else 18)
+        for number in (order, order ^ 1):
+            call_reader("order and value", plan, b"\x39\0\0\3" + number.to_bytes(2, "big"), 17)
+            call_reader("order and length", plan, b"\x39\0\1" + number.to_bytes(2, "big"), 16)
+            call_reader("order and map", plan, b"\x19\0\0\1" + number.to_bytes(2, "big"), 15)
+
+
+SECTIONS = [orders, examples, fields, two_fields, first_bytes, long_slices, plans]

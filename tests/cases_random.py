@@ -25,7 +25,7 @@ from model import (
 
 def candidates(plan, network):
     """The events that a history may try: every slot, every instance and the first ballots."""
-    n, a, l = plan
+    n, a, l = plan[:3]
     for kind, count in ((0, n), (1, n), (7, l), (8, l)):
         yield from (other(kind, x) for x in range(count))
     for kind, count in ((2, n), (3, a), (4, l)):
@@ -75,12 +75,12 @@ def histories():
         for _ in range(length):
             event = next_event(rng, plan, record)
             assert event_call(plan, record, event) != (11,)
-            record = call_role("history under %d %d %d" % plan, plan, record, event)
+            record = call_role("history under %d %d %d" % plan[:3], plan, record, event)
             assert not {COMMITTED, RM_ABORTED} <= set(record.states)
 
 
 def random_message(rng, plan):
-    n, a, _ = plan
+    n, a, _ = plan[:3]
     i, x, b, v = rng.randrange(n), rng.randrange(a), rng.choice((1, 1, 2, 3, 4)), rng.choice((1, 2))
     return rng.choice((m1a(i, b), m1b(i, x, b), m1b(i, x, b, (rng.randrange(3), v)), m2a(i, b - 1, v), m2b(i, x, b - 1, v),
                        m2b(i, x, b - 1, v), decision(v)))

@@ -29,7 +29,7 @@ def examples():
     call("example 8", ACCEPTOR, one, [2, 0, 0], slots(2, m2a(0, 1, PREPARED)), read, 12)
     call("example 9", ACCEPTOR, one, [2, 0, 0], slots(2, m1a(0, 2)), read, 12)
     call("example 10", ACCEPTOR, one, [2, 0, 0], slots(2, m1a(0, 3)), read, 0)
-    inbox = slots(3, bytes.fromhex("1F0000030001"), bytes.fromhex("1F0001030202"))
+    inbox = slots(3, bytes.fromhex("3F00000300010102"), bytes.fromhex("3F00010302020102"))
     _, slot, _, network = call("example 11", LEADER, (1, 3, 1), inbox, slots(1), propose, 0)
     assert network[SLOT * slot:][:SLOT] == m2a(0, 3, 2)
     two = [m1b(0, 0, 3), m1b(0, 1, 3)]
@@ -50,12 +50,15 @@ def examples():
 
 # ---- Damages: a call is changed so that a row of "Refusals by place" applies ----
 
-# Neither unused nor a readable message with zeros after it, under the plan 3, 3, 3.
+# Neither unused nor a readable message with zeros after it, under the plan 3, 3, 3 of order 0102; the last two are Commits of other orders.
 BAD_SLOTS = [bytes.fromhex(text) for text in """
-    000000000001 000100000000 010000000000 200000000000 FF0000000000 090000000000 090300010000 090001000001
-    070300010000 070003010000 070000010001 1F0000010000 1F0000010003 1F0300010001 1F0003010001 190000000000
-    190000030000 190300010000 190000010100 1B0000000000 1B0000000300 1B0300000100 1B0003000100 1B0000000101
-    100000000000 100300000000 10FF00000000 100101000000 110001000000 1E0000000001 190001020001""".split()]
+    0000000000010000 0001000000000000 0100000000000000 2000000000000000 FF00000000000000 2900000102000000
+    2903000102010000 2900010102000001 2703000101020000 2700030101020000 2700000101020001 3F00000100000102
+    3F00000100030102 3F03000100010102 3F00030100010102 3900000001020000 3900000301020000 3903000101020000
+    3900000101020100 3B00000000010200 3B00000003010200 3B03000001010200 3B00030001010200 3B00000001010201
+    3000010200000000 3003010200000000 30FF010200000000 3001010201000000 1100010000000000 1E00000000010000
+    3900010201020001 1900000101020000 3900000102010000 3900000101030000 3F00000100010100 3000000000000000
+    3001010200000001 7900000101020000 3001010300000000 3001020200000000""".split()]
 
 
 def edit(number, part, change):
@@ -93,7 +96,7 @@ def slot_damages(number, part):
     """Rows 5 and 6. Slot 0 of the table is used, and the event does without it."""
     out = [set_at(number, part, 0, *slot) for slot in BAD_SLOTS + [UNUSED]]
     out.append(edit(number, part, lambda table: table + UNUSED + decision(COMMIT)))
-    out.append(edit(number, part, lambda table: strip(table) + bytes.fromhex("FF0000000000")))
+    out.append(edit(number, part, lambda table: strip(table) + bytes.fromhex("FF00000000000000")))
     return out
 
 
@@ -175,7 +178,7 @@ def refusals():
 def events():
     """Every kind to every role, with who, high and low at and around their limits, at the plan's ends."""
     for plan in ((1, 1, 1), (16, 7, 4), (2, 3, 2)):
-        n, a, _ = plan
+        n, a, _ = plan[:3]
         network = slots(7, m1a(n - 1, 1), m1b(n - 1, a - 1, 1), m2a(0, 1, PREPARED), m2b(0, 0, 0, PREPARED), decision(COMMIT),
                         decision(ABORT))
         quorum = range(a // 2 + 1)

@@ -3,7 +3,7 @@ in them. The network and an inbox are both judged and written by the steps alone
 """
 
 from calls import WRITTEN, call, decision, m1a, m1b, m2a, m2b, other, proposing, reading, slots, twice
-from model import ABORTED, ACCEPTOR, COMMIT, LEADER, MAX_SLOTS, PREPARED, RM, SLOT, UNUSED, set_bytes
+from model import ABORTED, ACCEPTOR, COMMIT, LEADER, MAX_SLOTS, ORDER, PREPARED, RM, SLOT, UNUSED, set_bytes
 
 PLANS = [(1, 1, 1), (16, 7, 4), (5, 3, 2), (2, 6, 3), (16, 1, 4), (1, 7, 1), (0, 3, 2), (17, 3, 2), (5, 0, 2), (5, 8, 2),
          (5, 3, 0), (5, 3, 5), (0, 0, 0), (255, 255, 255)]
@@ -26,17 +26,17 @@ def as_both(label, plan, table, number=None):
 
 def message_at(plan, k):
     """Eighteen messages: all six kinds with their fields at the low end, at the high end and in the middle."""
-    n, a, _ = plan
+    n, a, _ = plan[:3]
     map_byte, stage = WRITTEN[k % 6], k // 6 % 3
-    fields = [[0, 0, 0, 1 if map_byte == 0x09 else 0, 1], [n - 1, a - 1, 255, 255, 2], [n // 2, a // 2, 7, 3, 2]][stage]
-    used = bytes([map_byte] + [x for bit, x in enumerate(fields) if map_byte >> bit & 1])
+    fields = [[0, 0, 0, 1 if map_byte == 0x29 else 0, 1], [n - 1, a - 1, 255, 255, 2], [n // 2, a // 2, 7, 3, 2]][stage]
+    used = bytes([map_byte] + [x for bit, x in enumerate(fields) if map_byte >> bit & 1]) + ORDER.to_bytes(2, "big")
     return used + bytes(SLOT - len(used))
 
 
 def one_slot():
     """A slot with each of eighteen messages, each byte set to values at and around the ranges."""
     for plan, judged in (((16, 7, 4), as_network), ((2, 3, 2), as_inbox)):
-        n, a, _ = plan
+        n, a, _ = plan[:3]
         for k in range(18):
             message = message_at(plan, k)
             as_both("a message", plan, message, 10)

@@ -1,19 +1,20 @@
 #!/bin/sh
-# Sees that tests/contracts.sh refuses a fault of each sort, and passes the right form beside it: each is planted in a copy of parts of three
-# crates, and taken out again.
+# Sees that tests/contracts.sh refuses a fault of each sort, and passes the right form beside it: each is planted in a copy of parts of four
+# crates and of the C header, and taken out again.
 set -eu
 cd "$(dirname "$0")/.."
 copy=$(mktemp -d)
 trap 'rm -rf "$copy"' EXIT
 trap 'exit 1' HUP INT TERM
-mkdir "$copy/tests"
-for part in message/specs/Outcome.antt slots/specs slots/src slots/must-fail rehearsal/src; do
+mkdir -p "$copy/tests" "$copy/hosts/c"
+for part in message/specs/Outcome.antt slots/specs slots/src slots/must-fail host_deliver/src rehearsal/src; do
     mkdir -p "$copy/crates/${part%/*}"
     cp -R "crates/$part" "$copy/crates/$part"
 done
-grep -E '^(message|slots|rehearsal):' crates.txt >"$copy/crates.txt"
+sed -n '/^[a-z].* paxos_commit_deliver(/,/;/p' hosts/c/paxos_commit.h >"$copy/hosts/c/paxos_commit.h"
+grep -E '^(message|slots|host_deliver|rehearsal):' crates.txt >"$copy/crates.txt"
 edits=$(find "$copy/crates" -name '*.edit' | wc -l)
-echo $((edits + 3)) >"$copy/tests/passed"
+echo $((edits + 4)) >"$copy/tests/passed"
 code=crates/slots/src/lib.rt
 spec=crates/slots/specs/Table.antt
 bad=0 tried=0
@@ -77,6 +78,16 @@ plant "$code" 'a parameter that is no plain name' 'pub fn f((x): u8, _: u8) -> u
 plant "$code" 'a type under another name' 'type u8 = u16;'
 plant "$code" 'a type under another name' 'pub struct bool { x: u8 }'
 plant "$code" 'a `use` under another name' 'use message::Read as Written;'
+
+# Exports: the C header has each of them as it is, and no other.
+call=crates/host_deliver/src/lib.rt
+damage "$call" 'the C header declares' 's/order: u16/order: u8/'
+damage "$call" 'the C header declares' 's/leaders: u8,$/order: u16,/;t;s/order: u16,$/leaders: u8,/'
+damage "$call" 'the C header declares' 's/network: &mut \[u8\]/network: \&[u8]/'
+damage "$call" 'the C header declares' 's/-> u32$/-> u64/'
+damage "$call" 'the C header declares' 's/^    bytes: &\[u8\],$/&\n    len: u8,/'
+damage "$call" 'which is not exported' 's/^pub extern "C" fn/pub fn/'
+damage "$call" 'does not declare paxos_commit_delivery' 's/fn paxos_commit_deliver(/fn paxos_commit_delivery(/'
 
 # What a public `ensures` names: the result, each parameter, and what is lent at entry and at exit.
 promise nothing 'λ r. ⌜ r ≡ add x (now (s .entry)) ⌝'

@@ -9,6 +9,7 @@
 #     names.awk        no file gives a name of the library or of the prelude another meaning; no axiom or like escape is used
 #     claims.awk       no equation of a thing with itself; no definition that is `Unit` or leaves out what it is given
 #     functions.awk    a public library function has no `requires`, and an `ensures` that names all that it takes, leaves and gives
+#     exports.awk      hosts/c/paxos_commit.h declares the exported functions, each with its parameters, and no other
 # Besides, all below crates/ and tests/ is plain files, and crates and must-fail edits are at least as many as DIR/tests/passed says.
 #
 # Each fault is a line that says what and where. Exit status 1 where there is one.
@@ -35,7 +36,8 @@ sources() {
     bad=0
     programs=$(for crate in crates/*/; do [ ! -f "${crate}src/main.rt" ] || basename "$crate"; done | tr '\n' ' ')
     # shellcheck disable=SC2046
-    awk -v programs="$programs" -f "$rules/words.awk" -f "$rules/names.awk" -f "$rules/claims.awk" -f "$rules/functions.awk" \
+    awk -v programs="$programs" -v header=hosts/c/paxos_commit.h \
+        -f "$rules/words.awk" -f "$rules/names.awk" -f "$rules/claims.awk" -f "$rules/functions.awk" -f "$rules/exports.awk" \
         $(find crates -name '*.rt' -o -name '*.antt' | sort) </dev/null || bad=1
     crates=$(sed 's/#.*//' crates.txt | grep -c :)
     edits=$(find crates -path '*/must-fail/*.edit' | wc -l)

@@ -1,7 +1,7 @@
 """The histories of the program crates/histories: how a history and its lines are written, and which are chosen.
 
-A history in the file stdin is fourteen bytes: how the record begins (0 zeros and opened, 1 given tables and opened, 2 given
-tables), n, A, L, the lengths of W, Q, N and I, and how many events follow, two bytes each, the higher first. Then come the
+A history in the file stdin is sixteen bytes: how the record begins (0 zeros and opened, 1 given tables and opened, 2 given
+tables), n, A, L, the order number, the lengths of W, Q, N and I, and how many events follow, two bytes each, the higher first. Then come the
 four tables, where they are given, and each event after a byte with its length. Its lines in the file stdout:
 
     open NUMBER DIGEST          the opening: 0 or the refusal
@@ -17,7 +17,7 @@ import random
 
 from calls import decision, m1a, m1b, m2a, m2b, other, proposing, reading, slots
 from cases_random import next_event, random_message
-from model import COMMITTED, MAPS, RM_ABORTED, SLOT, Plan, Record, event_call, open_record, set_bytes
+from model import COMMITTED, MAPS, RM_ABORTED, SLOT, Plan, Record, event_call, open_record, plan_bytes, set_bytes
 
 PRIME = 4294967291
 FRESH, OPENED, GIVEN = 0, 1, 2
@@ -62,7 +62,7 @@ class History:
 
     def text(self):
         counts = [len(table) for table in self.given] + [len(self.events)]
-        head = bytes([self.mode, *self.plan]) + b"".join(count.to_bytes(2, "big") for count in counts)
+        head = bytes([self.mode]) + plan_bytes(self.plan) + b"".join(count.to_bytes(2, "big") for count in counts)
         tables = b"" if self.mode == FRESH else b"".join(self.given)
         return head + tables + b"".join(bytes([len(event)]) + event for event in self.events)
 
@@ -71,7 +71,7 @@ class History:
 
 
 def zeros(plan, network_slots, inbox_slots):
-    n, a, l = plan
+    n, a, l = plan[:3]
     return Record(bytes(n), bytes(3 * n * a), bytes(SLOT * network_slots), bytes(SLOT * inbox_slots * l))
 
 
@@ -83,14 +83,14 @@ def schedules():
     for plan, network_slots, inbox_slots, length in (
             ((1, 1, 1), 8, 6, 40), ((2, 3, 2), 40, 24, 120), ((1, 5, 4), 40, 20, 100), ((3, 3, 3), 60, 30, 150),
             ((2, 7, 4), 50, 24, 110), ((2, 2, 4), 30, 8, 90), ((4, 1, 1), 20, 10, 70), ((3, 2, 2), 24, 14, 90)):
-        history = History("schedule under %d %d %d" % plan, plan, zeros(plan, network_slots, inbox_slots))
+        history = History("schedule under %d %d %d" % plan[:3], plan, zeros(plan, network_slots, inbox_slots))
         for _ in range(length):
             history.event(next_event(rng, history.plan, history.record))
 
 
 def quick_event(rng, plan, kinds, ballots):
     """An event of any kind; `kinds` are the kinds of the messages in N."""
-    n, a, l = plan
+    n, a, l = plan[:3]
     kind = rng.choices(range(9), (1, 0.3, 2, 9, 9, 3, 3, 0.2, 0.2))[0]
     if kind in (2, 3, 4):
         who = rng.randrange((n, a, l)[kind - 2])
@@ -126,8 +126,8 @@ def commits():
     commits: whichever leader gathers the votes decides Commit."""
     rng = random.Random(17)
     for plan in ((2, 7, 4), (3, 3, 2), (1, 4, 3), (4, 5, 4), (2, 2, 1)):
-        n, a, l = plan
-        history = History("commit under %d %d %d" % plan, plan, zeros(plan, 400, 300))
+        n, a, l = plan[:3]
+        history = History("commit under %d %d %d" % plan[:3], plan, zeros(plan, 400, 300))
         quick = Quick(rng, history, 12)
         votes = []
         for i in range(n):
@@ -155,7 +155,7 @@ def long_histories():
     rng = random.Random(12)
     for plan, network_slots, inbox_slots, ballots in (
             ((16, 7, 4), 1024, 1024, 255), ((2, 3, 2), 70, 16, 24), ((1, 3, 2), 40, 30, 3)):
-        history = History("8192 events under %d %d %d" % plan, plan, zeros(plan, network_slots, inbox_slots))
+        history = History("8192 events under %d %d %d" % plan[:3], plan, zeros(plan, network_slots, inbox_slots))
         Quick(rng, history, ballots).make_any(8192)
 
 
@@ -230,14 +230,16 @@ def damages():
     def resize(table, count):
         return lambda r: r._replace(**{table: (getattr(r, table) + bytes(SLOT * 1025 * 2))[:count]})
     return {
-        2: [resize("states", 1), resize("states", 3), resize("votes", 17), resize("votes", 0), resize("network", 37),
-            resize("network", SLOT * 1025), resize("inboxes", 18), resize("inboxes", 42), resize("inboxes", SLOT * 1025 * 2)],
+        2: [resize("states", 1), resize("states", 3), resize("votes", 17), resize("votes", 0), resize("network", SLOT * 6 + 1),
+            resize("network", SLOT * 1025), resize("inboxes", SLOT * 3), resize("inboxes", SLOT * 7), resize("inboxes", SLOT * 1025 * 2)],
         3: [change("states", 0, 4), change("states", 1, 255)],
         4: [change("votes", 2, 3), change("votes", 1, 1), change("votes", 17, 255), change("votes", 16, 9)],
-        5: [change("network", 0, 0, 0, 0, 0), change("network", 35, 1), change("network", 1, 2), change("network", 4, 7),
-            change("network", 30, 0x19, 0, 0, 3), change("network", 30, 0x20), change("network", 6, 9, 0, 0)],
-        6: [change("inboxes", 0, 0, 0, 0, 0), change("inboxes", 17, 1), change("inboxes", 18, 0x1B, 0, 3, 1, 1),
-            change("inboxes", 35, 1), change("inboxes", 30, 0x09, 0, 0), change("inboxes", 18, 0, 0, 0, 0)],
+        5: [change("network", 0, 0, 0, 0, 0), change("network", SLOT * 6 - 1, 1), change("network", 1, 2), change("network", 6, 7),
+            change("network", SLOT * 5, 0x39, 0, 0, 3, 1, 2), change("network", SLOT * 5, 0x20), change("network", SLOT, 0x29, 0, 0),
+            change("network", 4, 2), change("network", 5, 1)],
+        6: [change("inboxes", 0, 0, 0, 0, 0), change("inboxes", SLOT * 3 - 1, 1), change("inboxes", SLOT * 3, 0x3B, 0, 3, 1, 1, 1, 2),
+            change("inboxes", SLOT * 6 - 1, 1), change("inboxes", SLOT * 5, 0x29, 0, 0, 1, 2), change("inboxes", SLOT * 3, 0, 0, 0, 0),
+            change("inboxes", 4, 0), change("inboxes", 5, 3)],
     }
 
 
@@ -302,7 +304,7 @@ def given_tables():
     rng = random.Random(16)
     for _ in range(60):
         plan = Plan(rng.choice((1, 2, 3)), rng.randint(1, 4), rng.randint(1, 4))
-        n, a, l = plan
+        n, a, l = plan[:3]
         used = [random_message(rng, plan) for _ in range(rng.randint(0, 10))]
         room = rng.randint(2, 9)
         inboxes = b"".join(slots(room, *(random_message(rng, plan) for _ in range(rng.randint(0, room)))) for _ in range(l))
@@ -313,7 +315,27 @@ def given_tables():
             history.event(next_event(rng, plan, history.record))
 
 
-SECTIONS = [schedules, commits, long_histories, small_tables, junk, openings, damaged, later_rows, given_tables]
+def orders():
+    """Document 02, Paper 1: document 01's rehearsal under other order numbers; tables of one order lent under another number, in which every
+    message counts as 5, or where N is unused as 6; a fresh record holds no message, and so is any order's."""
+    rehearsal = [(other(0, 0), 0), (reading(3, 0, 0), 0), (reading(4, 0, 1), 0), (other(7, 0), 0), (reading(2, 0, 2), 0), (other(1, 0), 12)]
+    for order in (0, 1, 255, 256, 0x0201, 65280, 65535):
+        plan = Plan(1, 1, 1, order)
+        history = History("order %d" % order, plan, zeros(plan, 4, 2))
+        for event, number in rehearsal:
+            history.event(event, number)
+    for order in (0, 0x0103, 0x0202, 0x0201, 0xFFFF):
+        history = History("under another number", PLAN._replace(order=order), SOUND, GIVEN)
+        for event in GOOD + BAD:
+            history.event(event, 5)
+        history = History("an inbox under another number", PLAN._replace(order=order), SOUND._replace(network=bytes(len(NETWORK))), GIVEN)
+        for event in GOOD + BAD:
+            history.event(event, 6)
+        fresh = SOUND._replace(network=bytes(len(NETWORK)), inboxes=bytes(len(INBOXES)))
+        History("no message under another number", PLAN._replace(order=order), fresh, GIVEN).event(other(0, 1), 0)
+
+
+SECTIONS = [schedules, commits, long_histories, small_tables, junk, openings, damaged, later_rows, given_tables, orders]
 
 
 def choose():

@@ -1,4 +1,4 @@
-"""A model of document 01, written from its text alone: the plan, the messages with reader and writer, the tables, the nine
+"""A model of documents 01 and 02, written from their text alone: the plan, the messages with reader and writer, the tables, the nine
 events, the three role calls, the record (opening and the event call), and the rehearsal. It shares nothing with the crates.
 
     read, write                     the reader and the writer
@@ -14,11 +14,21 @@ from functools import lru_cache
 from typing import NamedTuple, Optional
 
 
+ORDER = 0x0102                    # the order number, where a case names none
+
+
 class Plan(NamedTuple):
-    """How many resource managers (n), acceptors (A) and leaders (L)."""
+    """How many resource managers (n), acceptors (A) and leaders (L), and the order number."""
     rms: int
     acceptors: int
     leaders: int
+    order: int = ORDER
+
+
+def plan_bytes(plan):
+    """A plan as the programs read it: the counts, and the order number in two bytes, the higher first."""
+    plan = Plan(*plan)
+    return bytes(plan[:3]) + plan.order.to_bytes(2, "big")
 
 
 class Refused(Exception):
@@ -46,14 +56,14 @@ def judge_plan(plan):
 
 # ---- Messages (document 01, "Message bytes") ----
 
-SLOT = 6
+SLOT = 8
 PREPARED, ABORTED = 1, 2          # values
 COMMIT, ABORT = 1, 2              # decisions
 
-# The fields by their bits: bit 0 ins, bit 1 acc, bit 2 mbal, bit 3 bal, bit 4 val.
+# The fields by their bits: bit 0 ins, bit 1 acc, bit 2 mbal, bit 3 bal, bit 4 val. Bit 5 stands always: the order number.
 FIELDS = ("ins", "acc", "mbal", "bal", "val")
 # map: kind, bytes
-MAPS = {0x09: ("1a", 3), 0x07: ("1b", 4), 0x1F: ("1b", 6), 0x19: ("2a", 4), 0x1B: ("2b", 5), 0x10: ("decision", 2)}
+MAPS = {0x29: ("1a", 5), 0x27: ("1b", 6), 0x3F: ("1b", 8), 0x39: ("2a", 6), 0x3B: ("2b", 7), 0x30: ("decision", 4)}
 
 
 class Message(NamedTuple):
@@ -71,15 +81,16 @@ def fields_of(map_byte):
     return [field for bit, field in enumerate(FIELDS) if map_byte >> bit & 1]
 
 
-def form(message):
-    """The bytes of a message: its map, then its fields."""
+def form(message, order=ORDER):
+    """The bytes of a message: its map, then its fields and the order number."""
     has = [bit for bit, field in enumerate(FIELDS) if getattr(message, field) is not None]
-    return bytes([sum(1 << bit for bit in has)] + [getattr(message, FIELDS[bit]) for bit in has])
+    fields = [getattr(message, FIELDS[bit]) for bit in has]
+    return bytes([0x20 + sum(1 << bit for bit in has)] + fields) + order.to_bytes(2, "big")
 
 
-def slot_of(message):
+def slot_of(message, order=ORDER):
     """A used slot: a message followed by zeros."""
-    return form(message) + bytes(SLOT - len(form(message)))
+    return form(message, order) + bytes(SLOT - len(form(message, order)))
 
 
 def decode(part):
@@ -101,6 +112,7 @@ def read(plan, part):
     refuse_if(len(part) != MAPS[part[0]][1], 16)
     message = decode(part)
     refuse_if(not in_range(plan, message), 17)
+    refuse_if(part[-2:] != plan.order.to_bytes(2, "big"), 18)
     return (message,)
 
 
@@ -108,11 +120,11 @@ def read(plan, part):
 def written(plan, message):
     judge_plan(plan)
     refuse_if(not in_range(plan, message), 17)
-    return slot_of(message), len(form(message))
+    return slot_of(message, plan.order), len(form(message, plan.order))
 
 
 def write(plan, message):
-    """The writer: number, six bytes, length; zeros if it refuses."""
+    """The writer: number, eight bytes, length; zeros if it refuses."""
     outcome = written(plan, message)
     return outcome if outcome[0] == 0 else (outcome[0], bytes(SLOT), 0)
 
@@ -163,9 +175,9 @@ def are_votes(votes):
     return all(val <= 2 and (val != 0 or bal == 0) for bal, val in cast)
 
 
-def put(table, message, number):
+def put(plan, table, message, number):
     """A message appended unless an equal one is there: the first slot where it stands, and the table."""
-    slots, slot = slots_of(table), slot_of(message)
+    slots, slot = slots_of(table), slot_of(message, plan.order)
     if slot not in slots:
         refuse_if(UNUSED not in slots, number)
         slots[slots.index(UNUSED)] = slot
@@ -192,7 +204,7 @@ def leave_working(state, value):
     """RMPrepare and RMChooseToAbort."""
     def leaving(plan, states, network, who, high, low):
         refuse_if(states[who] != WORKING, 12)
-        slot, network = put(network, Message("2a", ins=who, bal=0, val=value), 13)
+        slot, network = put(plan, network, Message("2a", ins=who, bal=0, val=value), 13)
         return slot, set_bytes(states, who, [state]), network
     return leaving
 
@@ -212,15 +224,15 @@ def acceptor_receive(plan, votes, network, who, high, low):
     if m.kind == "1a":
         refuse_if(not mbal < m.bal, 12)
         vote = {"bal": bal, "val": val} if val != 0 else {}
-        slot, network = put(network, Message("1b", ins=m.ins, acc=who, mbal=m.bal, **vote), 13)
+        slot, network = put(plan, network, Message("1b", ins=m.ins, acc=who, mbal=m.bal, **vote), 13)
         return slot, set_bytes(votes, at, [m.bal]), network
     refuse_if(not mbal <= m.bal, 12)
-    slot, network = put(network, Message("2b", ins=m.ins, acc=who, bal=m.bal, val=m.val), 13)
+    slot, network = put(plan, network, Message("2b", ins=m.ins, acc=who, bal=m.bal, val=m.val), 13)
     return slot, set_bytes(votes, at, [m.bal, m.bal, m.val]), network
 
 
 def receipt(plan, inbox, network, who, high, low):
-    _, inbox = put(inbox, slot_read(network, high, low, ["1b", "2b"]), 14)
+    _, inbox = put(plan, inbox, slot_read(network, high, low, ["1b", "2b"]), 14)
     return None, inbox, network
 
 
@@ -234,7 +246,7 @@ def is_majority(plan, acceptors):
 
 def phase1a(plan, inbox, network, who, high, low):
     judge_owned(plan, who, low)
-    slot, network = put(network, Message("1a", ins=high, bal=low), 13)
+    slot, network = put(plan, network, Message("1a", ins=high, bal=low), 13)
     return slot, inbox, network
 
 
@@ -251,8 +263,8 @@ def phase2a(plan, inbox, network, who, high, low):
     reports = [m for m in here if m.kind == "1b" and (m.ins, m.mbal) == (high, low)]
     refuse_if(not is_majority(plan, [m.acc for m in reports]), 12)
     proposal = Message("2a", ins=high, bal=low, val=proposed_value(reports))
-    slot, network = put(network, proposal, 13)
-    _, inbox = put(inbox, proposal, 14)
+    slot, network = put(plan, network, proposal, 13)
+    _, inbox = put(plan, inbox, proposal, 14)
     return slot, inbox, network
 
 
@@ -266,7 +278,7 @@ def decide(quantifier, value):
     """Kind 7 needs Decided(i, 1) for all i, kind 8 Decided(i, 2) for some i."""
     def deciding(plan, inbox, network, who, high, low):
         refuse_if(not quantifier(is_decided(plan, inbox, i, value) for i in range(plan.rms)), 12)
-        slot, network = put(network, Message("decision", val=value), 13)
+        slot, network = put(plan, network, Message("decision", val=value), 13)
         return slot, inbox, network
     return deciding
 
@@ -380,13 +392,15 @@ MAX_EVENTS = 8192
 
 def rehearse(text):
     """What the rehearsal prints for the bytes of its standard input."""
-    plan = Plan(*text[:3], *bytes(3 - len(text[:3])))
+    if len(text) < 5:
+        return "1\n"
+    plan = Plan(*text[:3], int.from_bytes(text[3:5], "big"))
     record = Record(bytes(plan.rms), bytes(3 * plan.rms * plan.acceptors), bytes(SLOT * MAX_SLOTS),
                     bytes(SLOT * MAX_SLOTS * plan.leaders))
     outcome = open_record(plan, record)
     if outcome[0] != 0:
         return "1\n"
-    record, lines, events = outcome[1], [], text[3:]
+    record, lines, events = outcome[1], [], text[5:]
     for at in range(0, min(len(events), 4 * MAX_EVENTS), 4):
         outcome = event_call(plan, record, events[at:at + 4])
         lines.append("%d" % outcome[0])

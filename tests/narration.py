@@ -90,12 +90,14 @@ def event_in_words(plan, network, event):
 
 def narrate(text):
     """What the narration prints for the bytes of its standard input."""
-    plan = Plan(*text[:3], *bytes(3 - len(text[:3])))
+    if len(text) < 5:
+        return refusal(1) + "\n"
+    plan = Plan(*text[:3], int.from_bytes(text[3:5], "big"))
     outcome = open_record(plan, Record(bytes(plan.rms), bytes(3 * plan.rms * plan.acceptors), bytes(SLOT * MAX_SLOTS),
                                        bytes(SLOT * MAX_SLOTS * plan.leaders)))
     if outcome[0] != 0:
         return refusal(outcome[0]) + "\n"
-    record, lines, events = outcome[1], [], text[3:]
+    record, lines, events = outcome[1], [], text[5:]
     for k, at in enumerate(range(0, min(len(events), 4 * MAX_EVENTS), 4)):
         event = events[at:at + 4]
         lines.append("%d. %s" % (k + 1, event_in_words(plan, record.network, event)))
@@ -140,4 +142,4 @@ def story():
         bytes([9, 0, 0, 0]), bytes([0, 2, 0, 0]), bytes([7, 0, 0, 1]),
         bytes([0, 0]),                                  # cut
     ]
-    return bytes([2, 3, 2]) + b"".join(events)
+    return bytes([2, 3, 2, 1, 2]) + b"".join(events)

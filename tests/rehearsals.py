@@ -13,7 +13,7 @@ import subprocess
 import sys
 
 from calls import other
-from model import MAX_EVENTS, rehearse
+from model import MAX_EVENTS, plan_bytes, rehearse
 from narration import narrate
 from vectors import EXAMPLE
 
@@ -21,17 +21,17 @@ BINARIES = pathlib.Path(__file__).resolve().parent.parent / "target" / "bin"
 
 
 def inputs():
-    for text in (b"", b"\1", b"\1\1", b"\1\1\1", EXAMPLE):
+    for text in (b"", b"\1", b"\1\1", b"\1\1\1", b"\1\1\1\0", EXAMPLE):
         yield text
         yield from (text + bytes(count) for count in (1, 2, 3, 4, 5))
     for plan in ((0, 1, 1), (17, 1, 1), (1, 0, 1), (1, 8, 1), (1, 1, 0), (1, 1, 5), (255, 255, 255), (16, 7, 4)):
-        yield bytes(plan) + other(0, 0)
+        yield plan_bytes(plan) + other(0, 0)
     for count in (MAX_EVENTS - 1, MAX_EVENTS, MAX_EVENTS + 1):
-        yield bytes([1, 1, 1]) + other(1, 0) * count
-        yield bytes([1, 1, 1]) + other(1, 0) * count + b"\0"
+        yield plan_bytes((1, 1, 1)) + other(1, 0) * count
+        yield plan_bytes((1, 1, 1)) + other(1, 0) * count + b"\0"
     rng = random.Random(21)
     for _ in range(300):
-        text = bytes(rng.randint(1, 3) for _ in range(3))
+        text = bytes(rng.randint(1, 3) for _ in range(5))
         for _ in range(rng.randint(0, 60)):
             kind = rng.randrange(10)
             low = rng.randrange(10) if kind in (2, 3, 4, 5, 6) or rng.random() < 0.1 else 0

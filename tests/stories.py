@@ -11,7 +11,7 @@ too, and N has no more slots than an inbox; so where an inbox is full, it holds 
 """
 
 from calls import other, proposing, reading
-from model import MAX_SLOTS, rehearse
+from model import MAX_SLOTS, plan_bytes, rehearse
 from narration import narrate
 
 NUMBERS = {"0", "1", "7", "8", "9", "10", "12", "13"}
@@ -21,7 +21,7 @@ LAST = 13                                               # lines of a longer one
 
 def committed():
     """Two weights, three acceptors: both prepare, two acceptors vote for each, the leader decides and both take the decision."""
-    return bytes([2, 3, 1]), [
+    return plan_bytes((2, 3, 1)), [
         other(0, 0), other(0, 1),                       # 0, 1: 2a of both weights
         reading(3, 0, 0), reading(3, 1, 0),             # 2, 3
         reading(3, 1, 1), reading(3, 2, 1),             # 4, 5
@@ -33,7 +33,7 @@ def committed():
 
 def aborted():
     """Weight 1 says nothing: the leader asks at ballot 1, no vote is reported, and it proposes aborted."""
-    return bytes([2, 3, 1]), [
+    return plan_bytes((2, 3, 1)), [
         other(0, 0),                                    # 0: 2a of weight 0
         proposing(5, 0, 1, 1),                          # 1: 1a for weight 1
         reading(3, 0, 1), reading(3, 2, 1),             # 2, 3: promises
@@ -48,13 +48,13 @@ def aborted():
 
 def opened():
     """One of two weights prepares, the other chooses to abort; nothing is decided."""
-    return bytes([2, 3, 2]), [other(0, 0), other(1, 1), reading(3, 0, 0), reading(3, 0, 1), reading(4, 1, 2), other(7, 1), other(8, 1)]
+    return plan_bytes((2, 3, 2)), [other(0, 0), other(1, 1), reading(3, 0, 0), reading(3, 0, 1), reading(4, 1, 2), other(7, 1), other(8, 1)]
 
 
 def competing():
     """Two leaders ask for weight 0, at ballots 1 and 2. The higher wins: at the lower no acceptor votes any more, and the vote at ballot 0
     that an acceptor reports is what the winner has to propose."""
-    return bytes([1, 3, 2]), [
+    return plan_bytes((1, 3, 2)), [
         other(0, 0),                                    # 0: 2a, prepared at ballot 0
         reading(3, 0, 0),                               # 1: the vote of acceptor 0
         proposing(5, 1, 0, 1),                          # 2: 1a of leader 1, ballot 1
@@ -79,7 +79,7 @@ def competing():
 
 def refusals():
     """Each number that a call can be refused with in a short history."""
-    return bytes([2, 3, 2]), [
+    return plan_bytes((2, 3, 2)), [
         bytes([9, 0, 0, 0]), bytes([0, 2, 0, 0]), bytes([0, 0, 0, 1]), proposing(5, 0, 2, 2),        # 7
         reading(2, 0, 0), reading(3, 0, 1023), reading(4, 0, 1024),                                 # 8
         other(0, 0),                                                                                # 0: 2a
@@ -94,15 +94,15 @@ def refusals():
 def full_network():
     """As many calls for promises as N has slots, and what is refused then; an acceptor's answer has no room either."""
     asks = [proposing(5, 0, i, b) for i in range(5) for b in range(1, 256)][:MAX_SLOTS]
-    return bytes([5, 1, 1]), asks + [proposing(5, 0, 4, 250), reading(3, 0, 0), other(0, 0), proposing(5, 0, 0, 1)]
+    return plan_bytes((5, 1, 1)), asks + [proposing(5, 0, 4, 250), reading(3, 0, 0), other(0, 0), proposing(5, 0, 0, 1)]
 
 
 def cut_event():
-    return bytes([1, 1, 1]), [other(1, 0), bytes([0, 0, 0])]
+    return plan_bytes((1, 1, 1)), [other(1, 0), bytes([0, 0, 0])]
 
 
 def no_events():
-    return bytes([16, 7, 4]), []
+    return plan_bytes((16, 7, 4)), []
 
 
 STORIES = [
@@ -114,9 +114,9 @@ STORIES = [
     ("full_network", full_network(), "OPEN"),
     ("cut_event", cut_event(), "ABORTED"),
     ("no_events", no_events(), "OPEN"),
-    ("limit", (bytes([1, 1, 1]), [other(0, 0)] + [other(1, 0)] * 8192), "OPEN"),
-    ("bad_plan", (bytes([17, 1, 1]), [other(0, 0)]), "1"),
-    ("cut_plan", (bytes([1, 1]), []), "1"),
+    ("limit", (plan_bytes((1, 1, 1)), [other(0, 0)] + [other(1, 0)] * 8192), "OPEN"),
+    ("bad_plan", (plan_bytes((17, 1, 1)), [other(0, 0)]), "1"),
+    ("cut_plan", (plan_bytes((1, 1, 1))[:4], []), "1"),
     ("empty", (b"", []), "1"),
 ]
 

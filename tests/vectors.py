@@ -34,12 +34,12 @@ NUMBERS = {
     RM: {0, 1, 2, 3, 5, 7, 8, 9, 11, 12, 13},
     ACCEPTOR: {0, 1, 2, 4, 5, 7, 8, 9, 12, 13},
     LEADER: {0, 1, 2, 5, 6, 7, 8, 9, 10, 12, 13, 14},
-    READER: {0, 1, 15, 16, 17},
+    READER: {0, 1, 15, 16, 17, 18},
     WRITER: {0, 1, 17},
 }
 
 # Document 01's example of the rehearsal, and what it says that it prints.
-EXAMPLE = bytes.fromhex("010101 00000000 03000000 04000001 07000000 02000002 01000000")
+EXAMPLE = bytes.fromhex("010101 0000 00000000 03000000 04000001 07000000 02000002 01000000")
 PRINTED = "0\n0\n0\n0\n0\n12\nCOMMITTED\n"
 
 

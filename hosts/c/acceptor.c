@@ -12,7 +12,7 @@
 #include <unistd.h>
 
 /* The order's plan, the same at all its hosts, and this host's tables. */
-enum { RMS = 2, ACCEPTORS = 3, LEADERS = 1 };
+enum { RMS = 2, ACCEPTORS = 3, LEADERS = 1, ORDER = 0x0102 };
 
 struct tables {
     uint8_t votes[PAXOS_COMMIT_VOTES_SIZE(RMS, ACCEPTORS)], network[PAXOS_COMMIT_NETWORK_MAX];
@@ -31,14 +31,14 @@ static bool keep(const struct tables *tables) {
 /* What the network brought: 0, and a reply was sent; or a refusal, and nothing has happened. */
 static uint8_t take(struct tables *tables, uint8_t who, const uint8_t *bytes, size_t len) {
     struct tables next = *tables;
-    uint32_t slot = paxos_commit_deliver(RMS, ACCEPTORS, LEADERS, next.network, sizeof next.network, bytes, len);
+    uint32_t slot = paxos_commit_deliver(RMS, ACCEPTORS, LEADERS, ORDER, next.network, sizeof next.network, bytes, len);
     if (slot >= PAXOS_COMMIT_ANSWER_REFUSED)
         return paxos_commit_refusal_of(slot);
 
     uint8_t event[PAXOS_COMMIT_EVENT];
     paxos_commit_event_at_slot(PAXOS_COMMIT_KIND_VOTE, who, slot, event);
-    uint32_t answer = paxos_commit_acceptor_step(RMS, ACCEPTORS, LEADERS, next.votes, sizeof next.votes, next.network,
-                                                 sizeof next.network, event, sizeof event);
+    uint32_t answer = paxos_commit_acceptor_step(RMS, ACCEPTORS, LEADERS, ORDER, next.votes, sizeof next.votes,
+                                                 next.network, sizeof next.network, event, sizeof event);
     if (answer >= PAXOS_COMMIT_ANSWER_REFUSED)
         return paxos_commit_refusal_of(answer);
 

@@ -1,9 +1,9 @@
 /*
  * All calls in one program: opens a record, runs document 01's example on it, feeds it junk, then runs an order with a
  * host for each role, which share nothing but the messages that they send each other; then the same order on tables
- * that are too small, where most calls are refused; at last the writer, deliveries, and events and refusals by name. It
- * prints what each call answered; hosts/test compares that with host.stdout. docs/HOSTS.md has the command that builds
- * it.
+ * that are too small, where most calls are refused; at last the writer, deliveries, and events and refusals by name.
+ * Messages of another order come in between, and are refused. It prints what each call answered; hosts/test compares
+ * that with host.stdout. docs/HOSTS.md has the command that builds it.
  */
 #include "paxos_commit.h"
 
@@ -11,7 +11,10 @@
 #include <stdlib.h>
 #include <string.h>
 
-enum { SLOTS = 16 };
+enum { SLOTS = 16, ORDER = 0x0102 };
+
+/* The order number as the last two bytes of a message. */
+#define ORDER_BYTES ORDER >> 8, ORDER & 0xFF
 
 /* What a step answered. */
 static void say(const char *what, uint32_t answer) {
@@ -47,8 +50,8 @@ static uint8_t network[PAXOS_COMMIT_NETWORK_SIZE(SLOTS)];
 static uint8_t inboxes[PAXOS_COMMIT_INBOXES_SIZE(1, SLOTS)];
 
 static uint32_t step(const uint8_t *event, size_t len) {
-    return paxos_commit_step(1, 1, 1, states, sizeof states, votes, sizeof votes, network, sizeof network, inboxes,
-                             sizeof inboxes, event, len);
+    return paxos_commit_step(1, 1, 1, ORDER, states, sizeof states, votes, sizeof votes, network, sizeof network,
+                             inboxes, sizeof inboxes, event, len);
 }
 
 static void rehearsal(void) {
@@ -59,16 +62,16 @@ static void rehearsal(void) {
                                          "weight 0 takes Commit",   "weight 0 chooses to abort"};
     memset(states, 0xAA, sizeof states);
     say("step before opening", step(events[0], 4));
-    printf("open: %u\n", paxos_commit_open(1, 1, 1, states, sizeof states, votes, sizeof votes, network, sizeof network,
-                                           inboxes, sizeof inboxes));
-    say_ending(paxos_commit_ending(1, 1, 1, states, sizeof states));
+    printf("open: %u\n", paxos_commit_open(1, 1, 1, ORDER, states, sizeof states, votes, sizeof votes, network,
+                                           sizeof network, inboxes, sizeof inboxes));
+    say_ending(paxos_commit_ending(1, 1, 1, ORDER, states, sizeof states));
     for (size_t i = 0; i < 6; i++)
         say(words[i], step(events[i], 4));
-    say_ending(paxos_commit_ending(1, 1, 1, states, sizeof states));
+    say_ending(paxos_commit_ending(1, 1, 1, ORDER, states, sizeof states));
     show("W", states, sizeof states);
     show("Q", votes, sizeof votes);
-    show("N", network, 18);
-    show("I", inboxes, 6);
+    show("N", network, 24);
+    show("I", inboxes, 8);
 }
 
 /* ---- junk: any bytes of any length get an answer, and a refused call changes nothing ---- */
@@ -82,7 +85,7 @@ static uint8_t random_byte(void) {
 
 static void junk(void) {
     uint8_t w[sizeof states], q[sizeof votes], n[sizeof network], i[sizeof inboxes], bytes[16];
-    unsigned refused[18] = {0}, read[18] = {0}, accepted = 0, changed = 0;
+    unsigned refused[19] = {0}, read[19] = {0}, accepted = 0, changed = 0;
     for (int round = 0; round < 10000; round++) {
         for (size_t k = 0; k < sizeof bytes; k++)
             bytes[k] = random_byte();
@@ -102,48 +105,54 @@ static void junk(void) {
         if (number == 0) {
             accepted++;
         } else {
-            refused[number % 18]++;
+            refused[number % 19]++;
             changed += memcmp(w, states, sizeof w) || memcmp(q, votes, sizeof q) || memcmp(n, network, sizeof n) ||
                        memcmp(i, inboxes, sizeof i);
         }
-        /* Any bytes as a message. */
-        bytes[0] &= 0x3F;
-        read[paxos_commit_byte(paxos_commit_read(16, 7, 4, bytes, random_byte() % 8), 0) % 18]++;
+        /* Any bytes as a message, half of them with the order number. */
+        len = random_byte() % 9;
+        bytes[0] = random_byte() & 0x3F;
+        if (random_byte() % 2 == 0 && len >= 2) {
+            bytes[len - 2] = ORDER >> 8;
+            bytes[len - 1] = ORDER & 0xFF;
+        }
+        read[paxos_commit_byte(paxos_commit_read(16, 7, 4, ORDER, bytes, len), 0) % 19]++;
     }
     printf("junk events: %u accepted", accepted);
-    for (unsigned k = 1; k < 18; k++)
+    for (unsigned k = 1; k < 19; k++)
         if (refused[k])
             printf(", %u refused with %u", refused[k], k);
     printf("; %u refused ones changed a byte\n", changed);
     printf("junk messages: %u read", read[0]);
-    for (unsigned k = 1; k < 18; k++)
+    for (unsigned k = 1; k < 19; k++)
         if (read[k])
             printf(", %u refused with %u", read[k], k);
     printf("\n");
 
     /* Damaged tables. */
     static const uint8_t prepare[4] = {0, 0, 0, 0};
-    network[17] ^= 1;
+    network[23] ^= 1;
     say("a byte after a message in N", step(prepare, 4));
-    network[17] ^= 1;
+    network[23] ^= 1;
     states[0] = 4;
     say("a state above 3", step(prepare, 4));
-    say_ending(paxos_commit_ending(1, 1, 1, states, sizeof states));
+    say_ending(paxos_commit_ending(1, 1, 1, ORDER, states, sizeof states));
     states[0] = PAXOS_COMMIT_STATE_ABORTED;
-    say_ending(paxos_commit_ending(1, 1, 1, states, sizeof states));
-    say_ending(paxos_commit_ending(1, 1, 1, states, 0));
+    say_ending(paxos_commit_ending(1, 1, 1, ORDER, states, sizeof states));
+    say_ending(paxos_commit_ending(1, 1, 1, ORDER, states, 0));
     states[0] = PAXOS_COMMIT_STATE_COMMITTED;
-    say("no weights in the plan", paxos_commit_step(0, 1, 1, states, sizeof states, votes, sizeof votes, network,
+    say("no weights in the plan", paxos_commit_step(0, 1, 1, ORDER, states, sizeof states, votes, sizeof votes, network,
                                                     sizeof network, inboxes, sizeof inboxes, prepare, 4));
-    say("a table of another length", paxos_commit_step(1, 1, 1, states, sizeof states, votes, sizeof votes, network, 17,
-                                                       inboxes, sizeof inboxes, prepare, 4));
+    say("a table of another length", paxos_commit_step(1, 1, 1, ORDER, states, sizeof states, votes, sizeof votes,
+                                                       network, 17, inboxes, sizeof inboxes, prepare, 4));
 }
 
 /* ---- a host for each role: n = 2, A = 3, L = 1 ---- */
 
 enum { RMS = 2, ACCEPTORS = 3, LEADERS = 1 };
 
-typedef uint32_t role_step(uint8_t, uint8_t, uint8_t, uint8_t *, size_t, uint8_t *, size_t, const uint8_t *, size_t);
+typedef uint32_t role_step(uint8_t, uint8_t, uint8_t, uint16_t, uint8_t *, size_t, uint8_t *, size_t, const uint8_t *,
+                           size_t);
 
 /* A host: its number, its role's step and table, and an N of its own with what it sent and what came to it. */
 struct host {
@@ -177,7 +186,7 @@ static struct host new_host(const char *name, uint8_t who, role_step *step, size
 /* An event of the host; what its step sent, which is none where it is quiet or refused. */
 static struct message call(struct host *host, const char *what, const uint8_t event[PAXOS_COMMIT_EVENT]) {
     struct message sent = {{0}, 0};
-    uint32_t answer = host->step(RMS, ACCEPTORS, LEADERS, host->table, host->table_len, host->network,
+    uint32_t answer = host->step(RMS, ACCEPTORS, LEADERS, ORDER, host->table, host->table_len, host->network,
                                  host->network_len, event, PAXOS_COMMIT_EVENT);
     printf("%s %u ", host->name, host->who);
     say(what, answer);
@@ -200,8 +209,8 @@ static struct message take(struct host *host, const char *what, uint8_t kind, co
     uint32_t slot;
     if (message->len == 0)
         return none;
-    slot =
-        paxos_commit_deliver(RMS, ACCEPTORS, LEADERS, host->network, host->network_len, message->bytes, message->len);
+    slot = paxos_commit_deliver(RMS, ACCEPTORS, LEADERS, ORDER, host->network, host->network_len, message->bytes,
+                                message->len);
     if (slot >= PAXOS_COMMIT_ANSWER_REFUSED) {
         printf("%s %u ", host->name, host->who);
         say("gets a message", slot);
@@ -236,11 +245,13 @@ static void hosts(size_t slots) {
                 take(&weight[k], "takes Commit", PAXOS_COMMIT_KIND_TAKE_DECISION, &decision);
         }
     }
-    /* No message, and a message that no acceptor takes. */
+    /* No message, a message that no acceptor takes, and a Commit of another order. */
     const struct message nonsense = {"junk", 4},
-                         commit = {{PAXOS_COMMIT_MAP_DECISION, PAXOS_COMMIT_DECISION_COMMIT}, 2};
+                         commit = {{PAXOS_COMMIT_MAP_DECISION, PAXOS_COMMIT_DECISION_COMMIT, ORDER_BYTES}, 4},
+                         other = {{PAXOS_COMMIT_MAP_DECISION, PAXOS_COMMIT_DECISION_COMMIT, 0, 0}, 4};
     take(&acceptor[0], "votes", PAXOS_COMMIT_KIND_VOTE, &nonsense);
     take(&acceptor[0], "votes", PAXOS_COMMIT_KIND_VOTE, &commit);
+    take(&weight[0], "takes Commit", PAXOS_COMMIT_KIND_TAKE_DECISION, &other);
     for (uint8_t i = 0; i < RMS; i++) {
         show("W", weight[i].table, weight[i].table_len);
         free(weight[i].table);
@@ -258,21 +269,23 @@ static void hosts(size_t slots) {
 
 static void writer(void) {
     uint8_t bytes[PAXOS_COMMIT_SLOT];
-    uint64_t written =
-        paxos_commit_write(RMS, ACCEPTORS, LEADERS, PAXOS_COMMIT_MAP_2A, 1, 0, 0, 0, PAXOS_COMMIT_VALUE_PREPARED);
+    uint64_t written = paxos_commit_write(RMS, ACCEPTORS, LEADERS, ORDER, PAXOS_COMMIT_MAP_2A, 1, 0, 0, 0,
+                                          PAXOS_COMMIT_VALUE_PREPARED);
     for (unsigned k = 0; k < PAXOS_COMMIT_SLOT; k++)
-        bytes[k] = paxos_commit_byte(written, 2 + k);
-    show("2a(1, 0, prepared)", bytes, paxos_commit_byte(written, 1));
-    written = paxos_commit_write(RMS, ACCEPTORS, LEADERS, PAXOS_COMMIT_MAP_1A, 0, 0, 0, 0, 0);
-    printf("a 1a at ballot 0: refused, %u\n", paxos_commit_byte(written, 0));
-    written = paxos_commit_write(RMS, ACCEPTORS, LEADERS, 0x1E, 0, 0, 0, 0, 0);
-    printf("no message's map: refused, %u\n", paxos_commit_byte(written, 0));
+        bytes[k] = paxos_commit_byte(written, k);
+    show("2a(1, 0, prepared)", bytes, paxos_commit_length(bytes[0]));
+    written = paxos_commit_write(RMS, ACCEPTORS, LEADERS, ORDER, PAXOS_COMMIT_MAP_1A, 0, 0, 0, 0, 0);
+    printf("a 1a at ballot 0: %u bytes, refused, %u\n", (unsigned)paxos_commit_length(paxos_commit_byte(written, 0)),
+           paxos_commit_byte(written, 1));
+    written = paxos_commit_write(RMS, ACCEPTORS, LEADERS, ORDER, 0x3E, 0, 0, 0, 0, 0);
+    printf("no message's map: %u bytes, refused, %u\n", (unsigned)paxos_commit_length(paxos_commit_byte(written, 0)),
+           paxos_commit_byte(written, 1));
 }
 
 /* ---- deliveries: to an N of three slots, of any bytes, and to an N that is none ---- */
 
 static void deliver(const char *what, uint8_t acceptors, uint8_t *n, size_t n_len, const uint8_t *bytes, size_t len) {
-    uint32_t slot = paxos_commit_deliver(RMS, acceptors, LEADERS, n, n_len, bytes, len);
+    uint32_t slot = paxos_commit_deliver(RMS, acceptors, LEADERS, ORDER, n, n_len, bytes, len);
     if (slot < PAXOS_COMMIT_ANSWER_REFUSED)
         printf("%s: delivered, in slot %u\n", what, (unsigned)slot);
     else
@@ -280,42 +293,48 @@ static void deliver(const char *what, uint8_t acceptors, uint8_t *n, size_t n_le
 }
 
 static void deliveries(void) {
-    static const uint8_t prepared[4] = {PAXOS_COMMIT_MAP_2A, 1, 0, PAXOS_COMMIT_VALUE_PREPARED};
-    static const uint8_t foreign[4] = {PAXOS_COMMIT_MAP_2A, RMS, 0, PAXOS_COMMIT_VALUE_PREPARED};
+    static const uint8_t prepared[6] = {PAXOS_COMMIT_MAP_2A, 1, 0, PAXOS_COMMIT_VALUE_PREPARED, ORDER_BYTES};
+    static const uint8_t foreign[6] = {PAXOS_COMMIT_MAP_2A, RMS, 0, PAXOS_COMMIT_VALUE_PREPARED, ORDER_BYTES};
+    static const uint8_t other[6] = {PAXOS_COMMIT_MAP_2A, 1, 0, PAXOS_COMMIT_VALUE_PREPARED, 2, 1};
     static const uint8_t maps[8] = {PAXOS_COMMIT_MAP_1A,
                                     PAXOS_COMMIT_MAP_1B,
                                     PAXOS_COMMIT_MAP_1B_VOTE,
                                     PAXOS_COMMIT_MAP_2A,
                                     PAXOS_COMMIT_MAP_2B,
                                     PAXOS_COMMIT_MAP_DECISION,
-                                    0x1E,
-                                    0x3B};
+                                    0x3E,
+                                    0x19};
     size_t n_len = PAXOS_COMMIT_NETWORK_SIZE(3);
     uint8_t *n = zeros(n_len), *old = zeros(n_len);
-    unsigned delivered = 0, refused[18] = {0}, changed = 0;
+    unsigned delivered = 0, refused[19] = {0}, changed = 0;
     deliver("a 2a", ACCEPTORS, n, n_len, prepared, sizeof prepared);
     deliver("the same 2a", ACCEPTORS, n, n_len, prepared, sizeof prepared);
-    deliver("a cut 2a", ACCEPTORS, n, n_len, prepared, 3);
+    deliver("a cut 2a", ACCEPTORS, n, n_len, prepared, 5);
     deliver("no bytes", ACCEPTORS, n, n_len, prepared, 0);
     deliver("a 2a for no weight of the plan", ACCEPTORS, n, n_len, foreign, sizeof foreign);
+    deliver("a 2a of another order", ACCEPTORS, n, n_len, other, sizeof other);
     deliver("a 2a to an N of 17 bytes", ACCEPTORS, n, 17, prepared, sizeof prepared);
     deliver("a 2a without acceptors in the plan", 0, n, n_len, prepared, sizeof prepared);
     show("N", n, n_len);
     for (int round = 0; round < 10000; round++) {
-        /* Small numbers behind a map, in a buffer of their length. Every 64th N is damaged, and a new one comes after.
-         */
-        size_t len = 1 + random_byte() % 6, at = random_byte() % n_len;
+        /* Small numbers behind a map, mostly with the order number, in a buffer of their length. Every 64th N is
+           damaged, and a new one comes after. */
+        size_t len = 1 + random_byte() % 8, at = random_byte() % n_len;
         uint8_t *bytes = zeros(len), damage = round % 64 == 0 ? random_byte() : 0, number;
         bytes[0] = maps[random_byte() % 8];
         for (size_t k = 1; k < len; k++)
             bytes[k] = random_byte() % 3;
+        if (len >= 3 && round % 4 != 0) {
+            bytes[len - 2] = ORDER >> 8;
+            bytes[len - 1] = ORDER & 0xFF;
+        }
         n[at] ^= damage;
         memcpy(old, n, n_len);
-        number = paxos_commit_refusal_of(paxos_commit_deliver(RMS, ACCEPTORS, LEADERS, n, n_len, bytes, len));
+        number = paxos_commit_refusal_of(paxos_commit_deliver(RMS, ACCEPTORS, LEADERS, ORDER, n, n_len, bytes, len));
         if (number == 0) {
             delivered++;
         } else {
-            refused[number % 18]++;
+            refused[number % 19]++;
             changed += memcmp(old, n, n_len) != 0;
         }
         if (damage != 0)
@@ -323,7 +342,7 @@ static void deliveries(void) {
         free(bytes);
     }
     printf("junk deliveries: %u delivered", delivered);
-    for (unsigned k = 1; k < 18; k++)
+    for (unsigned k = 1; k < 19; k++)
         if (refused[k])
             printf(", %u refused with %u", refused[k], k);
     printf("; %u refused ones changed a byte\n", changed);
@@ -346,7 +365,7 @@ static void names(void) {
     }
     paxos_commit_event_at_slot(PAXOS_COMMIT_KIND_VOTE, 2, PAXOS_COMMIT_ANSWER_REFUSED + 15, event);
     show("event with a refused answer as its slot", event, sizeof event);
-    for (uint8_t number = 0; number <= 18; number++)
+    for (uint8_t number = 0; number <= 19; number++)
         printf("refusal %u: %s\n", number, paxos_commit_refusal_name(number));
 }
 

@@ -1,12 +1,12 @@
 /*
  * The proved Paxos Commit record, for C and C++.
  *
- * The calls are written in Rattle and proved to answer and store exactly what document 01 says. Each group below is a
- * static library of its own; a host links those that it needs, and none has another role's code. They link into x86-64
- * programs, position independent or not, and use less than 8 KiB of stack. libhost_message.a wants nothing, the others
- * `memset`.
+ * The calls are written in Rattle and proved to answer and store exactly what document 01 says, with the order number
+ * of document 02, Paper 1. Each group below is a static library of its own; a host links those that it needs, and none
+ * has another role's code. They link into x86-64 programs, position independent or not, and use less than 8 KiB of
+ * stack. libhost_message.a wants nothing, the others `memset`.
  *
- *     libhost_message.a     paxos_commit_read, paxos_commit_write
+ *     libhost_message.a     paxos_commit_read, paxos_commit_write, paxos_commit_length
  *     libhost_deliver.a     paxos_commit_deliver
  *     libhost_rm.a          paxos_commit_rm_step
  *     libhost_acceptor.a    paxos_commit_acceptor_step
@@ -40,24 +40,25 @@ extern "C" {
 #endif
 
 /* The plan: `rms` resource managers (document 01: weights), 1 to 16; `acceptors`, 1 to 7; `leaders`, 1 to 4; each
- * numbered from 0. All calls on a record are given the plan that it was opened with: the tables do not keep it, and no
- * call compares it. */
+ * numbered from 0; and `order`, the order's number, any of two bytes, which stands in every message of the order. All
+ * calls on a record are given the plan that it was opened with: the tables do not keep it, and no call compares the
+ * counts; a message of another order number in a table is damage (5, 6). docs/HOSTS.md says how to choose it. */
 
 /* Sizes in bytes. N (network) has `slots` slots, at most 1,024, and so has each inbox of I (inboxes); 0 is allowed. */
 #define PAXOS_COMMIT_EVENT 4
-#define PAXOS_COMMIT_SLOT 6
+#define PAXOS_COMMIT_SLOT 8
 #define PAXOS_COMMIT_MAX_SLOTS 1024
 #define PAXOS_COMMIT_STATES_SIZE(rms) ((size_t)(rms))
 #define PAXOS_COMMIT_VOTES_SIZE(rms, acceptors) ((size_t)3 * (rms) * (acceptors))
-#define PAXOS_COMMIT_NETWORK_SIZE(slots) ((size_t)6 * (slots))
-#define PAXOS_COMMIT_INBOX_SIZE(slots) ((size_t)6 * (slots))
-#define PAXOS_COMMIT_INBOXES_SIZE(leaders, slots) ((size_t)6 * (slots) * (leaders))
+#define PAXOS_COMMIT_NETWORK_SIZE(slots) ((size_t)8 * (slots))
+#define PAXOS_COMMIT_INBOX_SIZE(slots) ((size_t)8 * (slots))
+#define PAXOS_COMMIT_INBOXES_SIZE(leaders, slots) ((size_t)8 * (slots) * (leaders))
 
-/* The largest plan and tables: 16 + 336 + 6,144 + 24,576 bytes. */
+/* The largest plan and tables: 16 + 336 + 8,192 + 32,768 bytes. */
 #define PAXOS_COMMIT_STATES_MAX 16
 #define PAXOS_COMMIT_VOTES_MAX 336
-#define PAXOS_COMMIT_NETWORK_MAX 6144
-#define PAXOS_COMMIT_INBOXES_MAX 24576
+#define PAXOS_COMMIT_NETWORK_MAX 8192
+#define PAXOS_COMMIT_INBOXES_MAX 32768
 
 /* Why a call was refused: of the reasons that apply, the one with the lowest number. 0 is no refusal. */
 enum paxos_commit_refusal {
@@ -69,7 +70,8 @@ enum paxos_commit_refusal {
     PAXOS_COMMIT_REFUSAL_BAD_STATES = 3,
     /* in Q a val above 2, or val 0 with a bal that is not 0 */
     PAXOS_COMMIT_REFUSAL_BAD_VOTES = 4,
-    /* in N a slot that is neither unused nor a readable message followed by zeros, or a used slot after an unused */
+    /* in N a slot that is neither unused nor a readable message of this order followed by zeros, or a used slot after
+       an unused */
     PAXOS_COMMIT_REFUSAL_BAD_NETWORK = 5,
     /* the same in an inbox */
     PAXOS_COMMIT_REFUSAL_BAD_INBOX = 6,
@@ -94,7 +96,9 @@ enum paxos_commit_refusal {
     /* reader, delivery: the length is not the map's */
     PAXOS_COMMIT_REFUSAL_WRONG_LENGTH = 16,
     /* reader, writer, delivery: ins, acc or val out of range, or a 1a with bal 0 */
-    PAXOS_COMMIT_REFUSAL_OUT_OF_RANGE = 17
+    PAXOS_COMMIT_REFUSAL_OUT_OF_RANGE = 17,
+    /* reader, delivery: nothing else is wrong, but the message has another order number */
+    PAXOS_COMMIT_REFUSAL_OTHER_ORDER = 18
 };
 
 /* A weight's state, a byte of W. */
@@ -119,14 +123,14 @@ enum paxos_commit_ending {
 };
 
 /* A message's first byte, its bit map; then one byte for each field whose bit stands: bit 0 ins, 1 acc, 2 mbal, 3 bal,
- * 4 val. */
+ * 4 val; then, since bit 5 always stands, the order number in two bytes, the high one first. */
 enum paxos_commit_map {
-    PAXOS_COMMIT_MAP_1A = 0x09,      /* ins, bal from 1: 3 bytes */
-    PAXOS_COMMIT_MAP_1B = 0x07,      /* ins, acc, mbal: no vote; 4 bytes */
-    PAXOS_COMMIT_MAP_1B_VOTE = 0x1F, /* ins, acc, mbal, bal, val: 6 bytes */
-    PAXOS_COMMIT_MAP_2A = 0x19,      /* ins, bal, val: 4 bytes */
-    PAXOS_COMMIT_MAP_2B = 0x1B,      /* ins, acc, bal, val: 5 bytes */
-    PAXOS_COMMIT_MAP_DECISION = 0x10 /* val, a decision's: 2 bytes */
+    PAXOS_COMMIT_MAP_1A = 0x29,      /* ins, bal from 1: 5 bytes */
+    PAXOS_COMMIT_MAP_1B = 0x27,      /* ins, acc, mbal: no vote; 6 bytes */
+    PAXOS_COMMIT_MAP_1B_VOTE = 0x3F, /* ins, acc, mbal, bal, val: 8 bytes */
+    PAXOS_COMMIT_MAP_2A = 0x39,      /* ins, bal, val: 6 bytes */
+    PAXOS_COMMIT_MAP_2B = 0x3B,      /* ins, acc, bal, val: 7 bytes */
+    PAXOS_COMMIT_MAP_DECISION = 0x30 /* val, a decision's: 4 bytes */
 };
 
 /* An event's first byte. An event is four bytes: kind, who, high, low. For kinds 2, 3 and 4, 256 * high + low is a slot
@@ -160,60 +164,70 @@ static inline uint8_t paxos_commit_byte(uint64_t answer, unsigned k) { return (u
 /* ---- libhost_message.a ---- */
 
 /* The reader. `bytes` must be exactly one message. Byte 0 of the answer is 0, byte 1 the map, bytes 2 to 6 ins, acc,
- * mbal, bal and val, 0 for one that the message does not have, and byte 7 is 0. Refused: byte 0 is 1, 15, 16 or 17 and
- * the others are 0. */
-uint64_t paxos_commit_read(uint8_t rms, uint8_t acceptors, uint8_t leaders, const uint8_t *bytes, size_t len);
+ * mbal, bal and val, 0 for one that the message does not have, and byte 7 is 0. Refused: byte 0 is 1, 15, 16, 17 or 18
+ * and the others are 0. */
+uint64_t paxos_commit_read(uint8_t rms, uint8_t acceptors, uint8_t leaders, uint16_t order, const uint8_t *bytes,
+                           size_t bytes_len);
 
 /* The writer, of the message with this map; fields that it does not have are not looked at. `val` is a VALUE_, in a
- * decision a DECISION_. Byte 0 of the answer is 0, byte 1 the message's length, and bytes 2 to 7 are the message and
- * zeros, as in a slot. Refused: byte 0 is 1, 15 (a map that is none of the six) or 17, the others are 0. */
-uint64_t paxos_commit_write(uint8_t rms, uint8_t acceptors, uint8_t leaders, uint8_t map, uint8_t ins, uint8_t acc,
-                            uint8_t mbal, uint8_t bal, uint8_t val);
+ * decision a DECISION_. The eight bytes of the answer, byte 0 first, are the message and zeros, as in a slot; byte 0 is
+ * the map, which is never 0, and paxos_commit_length says how many of them to send. Refused: byte 0 is 0, byte 1 is 1,
+ * 15 (a map that is none of the six) or 17, and the others are 0. */
+uint64_t paxos_commit_write(uint8_t rms, uint8_t acceptors, uint8_t leaders, uint16_t order, uint8_t map, uint8_t ins,
+                            uint8_t acc, uint8_t mbal, uint8_t bal, uint8_t val);
+
+/* How many bytes the message has that begins with this map, 4 to 8; 0 for a byte that is no message's map, as byte 0 of
+ * a refusal of the writer. */
+uint32_t paxos_commit_length(uint8_t map);
 
 /* ---- libhost_deliver.a ---- */
 
 /* The delivery: what another host sent, or any other bytes, came to this host, whose N is lent. The message goes into
  * the first unused slot unless it stands in N. The answer is the first slot where it stands, which events of kinds 2, 3
- * and 4 name. Refused: 1, 2, 5, 13, 15, 16 or 17. */
-uint32_t paxos_commit_deliver(uint8_t rms, uint8_t acceptors, uint8_t leaders, uint8_t *network, size_t network_len,
-                              const uint8_t *bytes, size_t len);
+ * and 4 name. Refused: 1, 2, 5, 13, 15, 16, 17 or 18. */
+uint32_t paxos_commit_deliver(uint8_t rms, uint8_t acceptors, uint8_t leaders, uint16_t order, uint8_t *network,
+                              size_t network_len, const uint8_t *bytes, size_t bytes_len);
 
 /* ---- libhost_rm.a ---- */
 
 /* The step of a resource manager: kinds 0, 1 and 2. `states` is W, PAXOS_COMMIT_STATES_SIZE bytes. Refused: 1, 2, 3, 5,
  * 7, 8, 9, 11, 12 or 13. */
-uint32_t paxos_commit_rm_step(uint8_t rms, uint8_t acceptors, uint8_t leaders, uint8_t *states, size_t states_len,
-                              uint8_t *network, size_t network_len, const uint8_t *event, size_t event_len);
+uint32_t paxos_commit_rm_step(uint8_t rms, uint8_t acceptors, uint8_t leaders, uint16_t order, uint8_t *states,
+                              size_t states_len, uint8_t *network, size_t network_len, const uint8_t *event,
+                              size_t event_len);
 
 /* ---- libhost_acceptor.a ---- */
 
 /* The step of an acceptor: kind 3. `votes` is Q, PAXOS_COMMIT_VOTES_SIZE bytes: mbal, bal and val of acceptor a for
  * instance i from byte 3 * (i * acceptors + a). Refused: 1, 2, 4, 5, 7, 8, 9, 12 or 13. */
-uint32_t paxos_commit_acceptor_step(uint8_t rms, uint8_t acceptors, uint8_t leaders, uint8_t *votes, size_t votes_len,
-                                    uint8_t *network, size_t network_len, const uint8_t *event, size_t event_len);
+uint32_t paxos_commit_acceptor_step(uint8_t rms, uint8_t acceptors, uint8_t leaders, uint16_t order, uint8_t *votes,
+                                    size_t votes_len, uint8_t *network, size_t network_len, const uint8_t *event,
+                                    size_t event_len);
 
 /* ---- libhost_leader.a ---- */
 
 /* The step of a leader: kinds 4 to 8. `inbox` is that leader's inbox alone, whole slots; nothing ties it to the event's
  * `who`, which is the host's to see to. Refused: 1, 2, 5, 6, 7, 8, 9, 10, 12, 13 or 14. */
-uint32_t paxos_commit_leader_step(uint8_t rms, uint8_t acceptors, uint8_t leaders, uint8_t *inbox, size_t inbox_len,
-                                  uint8_t *network, size_t network_len, const uint8_t *event, size_t event_len);
+uint32_t paxos_commit_leader_step(uint8_t rms, uint8_t acceptors, uint8_t leaders, uint16_t order, uint8_t *inbox,
+                                  size_t inbox_len, uint8_t *network, size_t network_len, const uint8_t *event,
+                                  size_t event_len);
 
 /* ---- libhost_record.a ---- */
 
 /* Opens a record: 0, and every byte of the four tables is 0. Refused: 1 or 2. `inboxes` is I, PAXOS_COMMIT_INBOXES_SIZE
  * bytes; leader l's inbox is its l-th equal part. */
-uint8_t paxos_commit_open(uint8_t rms, uint8_t acceptors, uint8_t leaders, uint8_t *states, size_t states_len,
-                          uint8_t *votes, size_t votes_len, uint8_t *network, size_t network_len, uint8_t *inboxes,
-                          size_t inboxes_len);
+uint8_t paxos_commit_open(uint8_t rms, uint8_t acceptors, uint8_t leaders, uint16_t order, uint8_t *states,
+                          size_t states_len, uint8_t *votes, size_t votes_len, uint8_t *network, size_t network_len,
+                          uint8_t *inboxes, size_t inboxes_len);
 
 /* The event call, all nine kinds. It judges all four tables first. Refused: 1 to 14. */
-uint32_t paxos_commit_step(uint8_t rms, uint8_t acceptors, uint8_t leaders, uint8_t *states, size_t states_len,
-                           uint8_t *votes, size_t votes_len, uint8_t *network, size_t network_len, uint8_t *inboxes,
-                           size_t inboxes_len, const uint8_t *event, size_t event_len);
+uint32_t paxos_commit_step(uint8_t rms, uint8_t acceptors, uint8_t leaders, uint16_t order, uint8_t *states,
+                           size_t states_len, uint8_t *votes, size_t votes_len, uint8_t *network, size_t network_len,
+                           uint8_t *inboxes, size_t inboxes_len, const uint8_t *event, size_t event_len);
 
 /* How the order with this W stands: an ENDING_. Refused: 1, 2 or 3. */
-uint32_t paxos_commit_ending(uint8_t rms, uint8_t acceptors, uint8_t leaders, const uint8_t *states, size_t states_len);
+uint32_t paxos_commit_ending(uint8_t rms, uint8_t acceptors, uint8_t leaders, uint16_t order, const uint8_t *states,
+                             size_t states_len);
 
 /* ---- what a host does around the calls; plain C, tested and not proved ---- */
 
@@ -246,20 +260,20 @@ static inline void paxos_commit_event_at_ballot(uint8_t kind, uint8_t who, uint8
     event[3] = bal;
 }
 
-/* What a step with this answer sent, as it goes over the wire: the message's bytes, and its length, which is 1 and the
+/* What a step with this answer sent, as it goes over the wire: the message's bytes, and its length, which is 2 and the
  * number of bits in the map. 0 where nothing was sent: the step was quiet or refused. */
 static inline size_t paxos_commit_sent(const uint8_t *network, size_t network_len, uint32_t answer,
                                        uint8_t message[PAXOS_COMMIT_SLOT]) {
-    size_t len = 1;
+    size_t len = 2;
     if (answer >= network_len / PAXOS_COMMIT_SLOT || answer >= PAXOS_COMMIT_MAX_SLOTS)
         return 0;
     memcpy(message, network + PAXOS_COMMIT_SLOT * (size_t)answer, PAXOS_COMMIT_SLOT);
-    for (unsigned bit = 0; bit < 5; bit++)
+    for (unsigned bit = 0; bit < 6; bit++)
         len += message[0] >> bit & 1;
     return len;
 }
 
-/* A refusal in words, with its number; "no refusal" for 0 and for a number above 17. */
+/* A refusal in words, with its number; "no refusal" for 0 and for a number above 18. */
 static inline const char *paxos_commit_refusal_name(uint8_t number) {
     switch (number) {
     case PAXOS_COMMIT_REFUSAL_BAD_PLAN:
@@ -296,6 +310,8 @@ static inline const char *paxos_commit_refusal_name(uint8_t number) {
         return "the length is not the message's (16)";
     case PAXOS_COMMIT_REFUSAL_OUT_OF_RANGE:
         return "a field of the message is out of range (17)";
+    case PAXOS_COMMIT_REFUSAL_OTHER_ORDER:
+        return "the message is of another order (18)";
     default:
         return "no refusal";
     }

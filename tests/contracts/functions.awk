@@ -41,6 +41,7 @@ function function_at(k,    from, end, public, requires, ensures) {
     end = head_end(k)
     for (from = public ? from : k; from < end; from++) if (remark[from]) fault(place[from], "a comment in the head of a function")
     for (from = k; from < end && token[from] != "("; ) from++
+    if (token[k - 2] token[k - 1] == "extern\"") exported(k, from)
     if (crate_of(file) in program) public = 0
     parameters(from, public)
     if (!public) return

@@ -110,4 +110,4 @@ FNR == 1 { whole_file(); file = FILENAME; rattle = file ~ /\.rt$/ }
     spaces = RLENGTH
     if (rattle) rattle_line($0); else antt_line($0)
 }
-END { whole_file(); across_files(); exit bad }
+END { whole_file(); across_files(); all_exported(); exit bad }

@@ -1,5 +1,6 @@
 -- A list of happenings from fresh hosts with tables of different sizes, all genuine, that ends committed: so the theorems are not proved of nothing.
---     committing                      one weight, one acceptor, one leader; a 2a comes twice, junk comes, the leader loses its N
+--     committing                      one weight, one acceptor, one leader; a 2a comes twice, junk comes, the leader loses its N, a Commit of
+--                                     another order comes
 --     hosts-fresh, hosts-genuine, hosts-commit     the hosts are fresh; each happening is genuine; what they answer, what was sent, and that the weight ends committed
 -- Assumes nothing.
 use Prim.Native.Nat.{ℕ}
@@ -11,7 +12,7 @@ use Rattle.message.specs.declared.Plan.{Plan}
 use Rattle.message.specs.declared.Message.the-variants.{Phase2a, Phase2b, Decision}
 use Rattle.message.specs.Outcome.{accepted, refused, andThen, refuseIf}
 use Rattle.message.specs.Plan.{isPlan, isCount}
-use Rattle.message.specs.Form.{isValue, isVote, isInRange, bytesOf, bytesOf1b, messageLength, slotOf, mapLengths, mapLength, fieldsMessage, decode}
+use Rattle.message.specs.Form.{isValue, isVote, isInRange, bytesOf, bytesOf1b, messageLength, slotOf, mapLengths, mapLength, fieldsMessage, decode, hasOrder}
 use Rattle.message.specs.Codec.{readMessage}
 use Rattle.slots.specs.All.{all}
 use Rattle.slots.specs.Table.{isTableLength, slotsUpTo, slots, isZero, readSlot, readTable, allUnused, isOrdered, isTable, usedMessages, messages}
@@ -33,18 +34,18 @@ use Rattle.apart.specs.Hosts.Lists.{zeros-fresh}
 use Rattle.apart.specs.Hosts.Tests.{areGenuine, genuine-of-test}
 
 abbrev order : Plan
-order = record { rms = 1; acceptors = 1; leaders = 1 }
+order = record { rms = 1; acceptors = 1; leaders = 1; order = 0x0102 }
 
 -- W, Q and inbox, and each N
 abbrev tables : Role → ℕ → ℕ
 tables rm k = 1
 tables acceptor k = 3
-tables leader k = 12
+tables leader k = 16
 
 abbrev networks : Role → ℕ → ℕ
-networks rm k = 12
-networks acceptor k = 18
-networks leader k = 12
+networks rm k = 16
+networks acceptor k = 24
+networks leader k = 16
 
 abbrev pub fresh : System
 fresh = zeroHosts tables networks
@@ -55,15 +56,16 @@ act role kind high low = call role 0 (kind ∷ 0 ∷ high ∷ low ∷ [])
 abbrev pub committing : List Happening
 committing =
     act rm 0 0 0
-    ∷ delivery acceptor 0 (0x19 ∷ 0 ∷ 0 ∷ 1 ∷ [])
-    ∷ delivery acceptor 0 (0x19 ∷ 0 ∷ 0 ∷ 1 ∷ [])
+    ∷ delivery acceptor 0 (0x39 ∷ 0 ∷ 0 ∷ 1 ∷ 1 ∷ 2 ∷ [])
+    ∷ delivery acceptor 0 (0x39 ∷ 0 ∷ 0 ∷ 1 ∷ 1 ∷ 2 ∷ [])
     ∷ act acceptor 3 0 0
-    ∷ delivery leader 0 (0x09 ∷ 0 ∷ [])
-    ∷ delivery leader 0 (0x1B ∷ 0 ∷ 0 ∷ 0 ∷ 1 ∷ [])
+    ∷ delivery leader 0 (0x29 ∷ 0 ∷ [])
+    ∷ delivery leader 0 (0x3B ∷ 0 ∷ 0 ∷ 0 ∷ 1 ∷ 1 ∷ 2 ∷ [])
     ∷ act leader 4 0 0
     ∷ act leader 7 0 0
-    ∷ restart leader 0 (0x1B ∷ 0 ∷ 0 ∷ 0 ∷ 1 ∷ replicate 7 0) (replicate 6 0)
-    ∷ delivery rm 0 (0x10 ∷ 1 ∷ [])
+    ∷ restart leader 0 (0x3B ∷ 0 ∷ 0 ∷ 0 ∷ 1 ∷ 1 ∷ 2 ∷ replicate 9 0) (replicate 8 0)
+    ∷ delivery rm 0 (0x30 ∷ 1 ∷ 2 ∷ 1 ∷ [])
+    ∷ delivery rm 0 (0x30 ∷ 1 ∷ 1 ∷ 2 ∷ [])
     ∷ act rm 2 0 1
     ∷ []
 
@@ -74,11 +76,11 @@ computed :
     (areGenuine order fresh committing ≡ true)
     × (answers order fresh committing
     ≡ accepted (Slot 0) ∷ accepted (Slot 0) ∷ accepted (Slot 0) ∷ accepted (Slot 1) ∷ refused 16 ∷ accepted (Slot 0) ∷ accepted Quiet
-    ∷ accepted (Slot 1) ∷ accepted Quiet ∷ accepted (Slot 1) ∷ accepted Quiet ∷ [])
+    ∷ accepted (Slot 1) ∷ accepted Quiet ∷ refused 18 ∷ accepted (Slot 1) ∷ accepted Quiet ∷ [])
     × (systemAfter order fresh committing .wire ≡ Decision 1 ∷ Phase2b 0 0 0 1 ∷ Phase2a 0 0 1 ∷ [])
     × (row (systemAfter order fresh committing) 0 ≡ 2)
 unfolding readMessage andThen refuseIf isPlan isCount isValue isVote isInRange bytesOf bytesOf1b messageLength slotOf mapLengths
-    mapLength fieldsMessage decode all isTableLength slotsUpTo slots isZero readSlot readTable allUnused isOrdered isTable usedMessages
+    mapLength fieldsMessage decode hasOrder all isTableLength slotsUpTo slots isZero readSlot readTable allUnused isOrdered isTable usedMessages
     messages sameBytes storeAt sameMessage placeFrom placeIn messageAt sending slotNumber whoLimit areZero areArguments isEvent
     areStates rmJudged rmChoose rmReceiveDecision rmReceive rmKind rmVerdict rmStep voteAt
     isVoteState areVotes acceptorJudged voteOf phase1b phase2b acceptorReceive acceptorVerdict acceptorStep countAcceptors isMajority
@@ -93,7 +95,7 @@ hosts-genuine = genuine-of-test order fresh committing (computed .0)
 pub hosts-commit :
     (answers order fresh committing
     ≡ accepted (Slot 0) ∷ accepted (Slot 0) ∷ accepted (Slot 0) ∷ accepted (Slot 1) ∷ refused 16 ∷ accepted (Slot 0) ∷ accepted Quiet
-    ∷ accepted (Slot 1) ∷ accepted Quiet ∷ accepted (Slot 1) ∷ accepted Quiet ∷ [])
+    ∷ accepted (Slot 1) ∷ accepted Quiet ∷ refused 18 ∷ accepted (Slot 1) ∷ accepted Quiet ∷ [])
     × (systemAfter order fresh committing .wire ≡ Decision 1 ∷ Phase2b 0 0 0 1 ∷ Phase2a 0 0 1 ∷ [])
     × (row (systemAfter order fresh committing) 0 ≡ 2)
 hosts-commit = (computed .1, computed .2, computed .3)

@@ -18,7 +18,7 @@ use lib.ListN.{replicate}
 use Rattle.message.specs.declared.Plan.{Plan}
 use Rattle.message.specs.Outcome.{andThen, refuseIf}
 use Rattle.message.specs.Plan.{isPlan, isCount}
-use Rattle.message.specs.Form.{isValue, isVote, isInRange, bytesOf, bytesOf1b, messageLength, slotOf, mapLengths, mapLength, fieldsMessage, decode}
+use Rattle.message.specs.Form.{isValue, isVote, isInRange, bytesOf, bytesOf1b, messageLength, slotOf, mapLengths, mapLength, fieldsMessage, decode, hasOrder}
 use Rattle.message.specs.Codec.{readMessage}
 use Rattle.slots.specs.All.{all}
 use Rattle.slots.specs.Table.{isTableLength, slotsUpTo, slots, isZero, readSlot, readTable, allUnused, isOrdered, isTable, usedMessages, messages}
@@ -41,17 +41,17 @@ use Rattle.apart.specs.Hosts.Tests.{areSent, areGenuine, genuine-of-test
 use Rattle.apart.specs.Theorems.{hosts-consistent}
 
 abbrev pub order : Plan
-order = record { rms = 2; acceptors = 1; leaders = 1 }
+order = record { rms = 2; acceptors = 1; leaders = 1; order = 0x0102 }
 
 abbrev tables : Role → ℕ → ℕ
 tables rm k = 2
 tables acceptor k = 6
-tables leader k = 30
+tables leader k = 40
 
 abbrev networks : Role → ℕ → ℕ
-networks rm k = 18
-networks acceptor k = 36
-networks leader k = 48
+networks rm k = 24
+networks acceptor k = 48
+networks leader k = 64
 
 abbrev pub fresh : System
 fresh = zeroHosts tables networks
@@ -74,16 +74,16 @@ act role k kind high low = call role k (kind ∷ k ∷ high ∷ low ∷ [])
 -- by the 2a of both weights, for prepared at ballot 0: the acceptor votes, the leader decides, and Commit comes to weight 1
 abbrev pub deciding : List Happening
 deciding =
-    delivery acceptor 0 (0x19 ∷ 0 ∷ 0 ∷ 1 ∷ [])
+    delivery acceptor 0 (0x39 ∷ 0 ∷ 0 ∷ 1 ∷ 1 ∷ 2 ∷ [])
     ∷ act acceptor 0 3 0 0
-    ∷ delivery acceptor 0 (0x19 ∷ 1 ∷ 0 ∷ 1 ∷ [])
+    ∷ delivery acceptor 0 (0x39 ∷ 1 ∷ 0 ∷ 1 ∷ 1 ∷ 2 ∷ [])
     ∷ act acceptor 0 3 0 2
-    ∷ delivery leader 0 (0x1B ∷ 0 ∷ 0 ∷ 0 ∷ 1 ∷ [])
+    ∷ delivery leader 0 (0x3B ∷ 0 ∷ 0 ∷ 0 ∷ 1 ∷ 1 ∷ 2 ∷ [])
     ∷ act leader 0 4 0 0
-    ∷ delivery leader 0 (0x1B ∷ 1 ∷ 0 ∷ 0 ∷ 1 ∷ [])
+    ∷ delivery leader 0 (0x3B ∷ 1 ∷ 0 ∷ 0 ∷ 1 ∷ 1 ∷ 2 ∷ [])
     ∷ act leader 0 4 0 1
     ∷ act leader 0 7 0 0
-    ∷ delivery rm 1 (0x10 ∷ 1 ∷ [])
+    ∷ delivery rm 1 (0x30 ∷ 1 ∷ 1 ∷ 2 ∷ [])
     ∷ []
 
 -- weight 1's host makes an event of weight 0, which then aborts
@@ -98,14 +98,14 @@ abbrev pub undecided : List Happening
 undecided = act rm 0 1 0 0 ∷ act rm 1 0 0 0 ∷ []
 
 abbrev pub forgedCommit : Happening
-forgedCommit = delivery rm 1 (0x10 ∷ 1 ∷ [])
+forgedCommit = delivery rm 1 (0x30 ∷ 1 ∷ 1 ∷ 2 ∷ [])
 
 abbrev pub forgedNetwork : List ℕ
-forgedNetwork = 0x10 ∷ 1 ∷ replicate 16 0
+forgedNetwork = 0x30 ∷ 1 ∷ 1 ∷ 2 ∷ replicate 20 0
 
 -- weight 0's W is lost, and its N is not
 abbrev pub keptNetwork : List ℕ
-keptNetwork = 0x19 ∷ 0 ∷ 0 ∷ 1 ∷ replicate 14 0
+keptNetwork = 0x39 ∷ 0 ∷ 0 ∷ 1 ∷ 1 ∷ 2 ∷ replicate 18 0
 
 abbrev pub afterLostStates : List Happening
 afterLostStates = act rm 1 0 0 0 ∷ act rm 0 1 0 0 ∷ (deciding ++ (act rm 1 2 0 1 ∷ []))
@@ -117,17 +117,17 @@ beforeLostVotes = act rm 0 0 0 0 ∷ act rm 1 0 0 0 ∷ (deciding ++ (act rm 1 2
 abbrev pub afterLostVotes : List Happening
 afterLostVotes =
     act leader 0 5 0 1
-    ∷ delivery acceptor 0 (0x09 ∷ 0 ∷ 1 ∷ [])
+    ∷ delivery acceptor 0 (0x29 ∷ 0 ∷ 1 ∷ 1 ∷ 2 ∷ [])
     ∷ act acceptor 0 3 0 0
-    ∷ delivery leader 0 (0x07 ∷ 0 ∷ 0 ∷ 1 ∷ [])
+    ∷ delivery leader 0 (0x27 ∷ 0 ∷ 0 ∷ 1 ∷ 1 ∷ 2 ∷ [])
     ∷ act leader 0 4 0 4
     ∷ act leader 0 6 0 1
-    ∷ delivery acceptor 0 (0x19 ∷ 0 ∷ 1 ∷ 2 ∷ [])
+    ∷ delivery acceptor 0 (0x39 ∷ 0 ∷ 1 ∷ 2 ∷ 1 ∷ 2 ∷ [])
     ∷ act acceptor 0 3 0 2
-    ∷ delivery leader 0 (0x1B ∷ 0 ∷ 0 ∷ 1 ∷ 2 ∷ [])
+    ∷ delivery leader 0 (0x3B ∷ 0 ∷ 0 ∷ 1 ∷ 2 ∷ 1 ∷ 2 ∷ [])
     ∷ act leader 0 4 0 6
     ∷ act leader 0 8 0 0
-    ∷ delivery rm 0 (0x10 ∷ 2 ∷ [])
+    ∷ delivery rm 0 (0x30 ∷ 2 ∷ 1 ∷ 2 ∷ [])
     ∷ act rm 0 2 0 1
     ∷ []
 
@@ -158,12 +158,12 @@ computed :
     × Computed undecided forgedCommit (act rm 1 2 0 1 ∷ [])
     × Computed undecided (restart rm 1 (0 ∷ 1 ∷ []) forgedNetwork) (act rm 1 2 0 0 ∷ [])
     × Computed (act rm 0 0 0 0 ∷ []) (restart rm 0 (0 ∷ 0 ∷ []) keptNetwork) afterLostStates
-    × Computed beforeLostVotes (restart acceptor 0 (replicate 6 0) (replicate 36 0)) afterLostVotes
+    × Computed beforeLostVotes (restart acceptor 0 (replicate 6 0) (replicate 48 0)) afterLostVotes
     × (end undecided .hosts rm 1 .table ≡ 0 ∷ 1 ∷ [])
     × (areSent order (end (act rm 0 0 0 0 ∷ []) .wire) (messages order keptNetwork) ≡ true)
-    × (areSent order (end beforeLostVotes .wire) (messages order (replicate 36 0)) ≡ true)
+    × (areSent order (end beforeLostVotes .wire) (messages order (replicate 48 0)) ≡ true)
 unfolding readMessage andThen refuseIf isPlan isCount isValue isVote isInRange bytesOf bytesOf1b messageLength slotOf mapLengths
-    mapLength fieldsMessage decode all isTableLength slotsUpTo slots isZero readSlot readTable allUnused isOrdered isTable usedMessages
+    mapLength fieldsMessage decode hasOrder all isTableLength slotsUpTo slots isZero readSlot readTable allUnused isOrdered isTable usedMessages
     messages sameBytes storeAt sameMessage placeFrom placeIn messageAt sending slotNumber whoLimit areZero areArguments isEvent
     areStates rmJudged rmChoose rmReceiveDecision rmReceive rmKind rmVerdict rmStep voteAt
     isVoteState areVotes acceptorJudged voteOf phase1b phase2b acceptorReceive acceptorVerdict acceptorStep countAcceptors isMajority
@@ -200,9 +200,9 @@ states-kept-needed = (
   sents-of-test order (end (act rm 0 0 0 0 ∷ [])) (messages order keptNetwork) (computed .6),
 )
 
-pub votes-kept-needed : Broken beforeLostVotes (restart acceptor 0 (replicate 6 0) (replicate 36 0)) afterLostVotes
-    × NotForged (end beforeLostVotes) (messages order (replicate 36 0))
+pub votes-kept-needed : Broken beforeLostVotes (restart acceptor 0 (replicate 6 0) (replicate 48 0)) afterLostVotes
+    × NotForged (end beforeLostVotes) (messages order (replicate 48 0))
 votes-kept-needed = (
-  broken beforeLostVotes (restart acceptor 0 (replicate 6 0) (replicate 36 0)) afterLostVotes (computed .4),
-  sents-of-test order (end beforeLostVotes) (messages order (replicate 36 0)) (computed .7),
+  broken beforeLostVotes (restart acceptor 0 (replicate 6 0) (replicate 48 0)) afterLostVotes (computed .4),
+  sents-of-test order (end beforeLostVotes) (messages order (replicate 48 0)) (computed .7),
 )

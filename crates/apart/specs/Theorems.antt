@@ -6,6 +6,7 @@
 --     wire-kept               what was sent stays sent
 --     sent-genuine, junk-genuine, not-event-genuine     the byte form of a sent message may come to any host at any time, and so may bytes that are no message;
 --                             what is no event may be called with
+--     other-order-genuine     and so may the messages of other orders that travel on the same link
 --     lost-network, older-network, longer-network, longer-inbox     a host may go on with an N of zeros, with any host's N as it is or was, and with zeros after
 --                             its N; a leader with zeros after its inbox
 --     hosts-agree, leaders-agree      no instance chooses two values, by what was sent or by what two leaders have received
@@ -13,23 +14,27 @@
 --     hosts-chosen-2a, -2b    what a majority has voted for at a ballot is what every 2a and 2b there and at later ballots carries, ever after
 --     deliver-answers, deliver-keeps, deliver-sends     a delivery answers the lowest number that applies; a refused one changes no byte of N; an accepted one
 --                             has put the message that the bytes are into N, and answers the first slot where it stands
+--     other-order-bytes, other-order-stands     row 18 applies to another order's message, and row 5 where it stands in N
 -- In document 01's numbers: Words.antt. As behaviours of module PaxosCommit: Behaviour.antt. Assumes nothing.
 use Prim.Native.Nat.{ℕ, _%_, _≤_}
 use mathlib.Core.Bool.{Bool, true, false, false≢true}
 use mathlib.Core.List.{List, [], _∷_, _++_, List·Memᴰ, List·Memᴰ·head, List·Memᴰ·tail, List·Memᴰ·not-nil}
 use mathlib.Core.Logic.{inl, inr}
 use mathlib.Core.Path.{_≡_, refl, sym, _∙_}
+use native.Mathlib.Omega.{arith}
 use lib.ListN.{length, replicate}
 use Rattle.message.specs.declared.Plan.{Plan}
 use Rattle.message.specs.declared.Message as Wire
-use Rattle.message.specs.Outcome.{accepted, refused}
+use Rattle.message.specs.Outcome.{Outcome, accepted, refused}
 use Rattle.message.specs.Plan.{isPlan}
-use Rattle.message.specs.Form.{isInRange, bytesOf}
+use Rattle.message.specs.Form.{isInRange, bytesOf, slotOf}
 use Rattle.message.specs.Codec.{readMessage}
-use Rattle.message.specs.Codec.Laws.{readMessage-bytesOf}
-use Rattle.message.specs.Rows.{Lowest}
+use Rattle.message.specs.Codec.Laws.{readMessage-bytesOf, readMessage-of-other}
+use Rattle.message.specs.Rows.{here, below, Applies, Lowest}
+use Rattle.message.specs.Theorems.{bytesRows, readerRows, other-order-row}
 use Rattle.message.specs.Rows.Laws.{isAscending, lowest-of-ruled}
-use Rattle.slots.specs.Table.{messages}
+use Rattle.slots.specs.Table.{slots, messages}
+use Rattle.slots.specs.Table.Foreign.{foreign-table}
 use Rattle.change.specs.declared.Sent.{Sent}
 use Rattle.event.specs.Event.{isEvent}
 use Rattle.tcommit.specs.RmState.{committed, aborted}
@@ -72,6 +77,13 @@ module _ (p : Plan) where
     pub junk-genuine : (bytes : List ℕ) (number : ℕ) → readMessage p bytes ≡ refused number → Genuine p s (delivery role k bytes)
     junk-genuine bytes number is = rw is (λ x h. absurd (List·Memᴰ·not-nil h))
 
+    pub other-order-genuine : (q : Plan) (m : Wire.Message) → (p .order ≡ q .order → ⊥) → Genuine p s (delivery role k (bytesOf q m))
+    other-order-genuine q m differs = go (readMessage p (bytesOf q m)) refl
+      where
+        go : (o : Outcome Wire.Message) → readMessage p (bytesOf q m) ≡ o → Genuine p s (delivery role k (bytesOf q m))
+        go (accepted n) is = absurd (readMessage-of-other p q m n differs is)
+        go (refused number) is = junk-genuine (bytesOf q m) number is
+
     pub not-event-genuine : (e : List ℕ) → isEvent p e ≡ false → Genuine p s (call role k e)
     not-event-genuine e is named = absurd (false≢true (sym is ∙ named))
 
@@ -92,11 +104,11 @@ module _ (p : Plan) where
       g : Grounded p end
       g = grounded-after p s (grounded-fresh p s fresh) hs ok
 
-      pub longer-network : (role : Role) (k n : ℕ) → length (end .hosts role k .network) % 6 ≡ 0
+      pub longer-network : (role : Role) (k n : ℕ) → length (end .hosts role k .network) % 8 ≡ 0
           → Genuine p end (restart role k (end .hosts role k .table) (end .hosts role k .network ++ replicate n 0))
       longer-network role k n whole = (inl refl, rw (messages-longer p n (end .hosts role k .network) whole) (g .tied .networks role k))
 
-      pub longer-inbox : (l n : ℕ) → length (end .hosts leader l .table) % 6 ≡ 0
+      pub longer-inbox : (l n : ℕ) → length (end .hosts leader l .table) % 8 ≡ 0
           → Genuine p end (restart leader l (end .hosts leader l .table ++ replicate n 0) (end .hosts leader l .network))
       longer-inbox l n whole = (inr (whole, (n, refl)), g .tied .networks leader l)
 
@@ -153,3 +165,15 @@ module _ (p : Plan) (network bytes : List ℕ) where
   pub deliver-sends : (sent : Sent) → deliverStep p network bytes .answer ≡ accepted sent
       → (m : Wire.Message) × (readMessage p bytes ≡ accepted m) × Sends p network m (deliverStep p network bytes .answer) (deliverStep p network bytes .network)
   deliver-sends = sends-of-delivery p network bytes
+
+-- another order's message: 18 applies to its bytes, and 5 where it stands in N
+module _ (p q : Plan) (differs : p .order ≡ q .order → ⊥) (m : Wire.Message) (network : List ℕ) where
+  pub other-order-bytes : Applies (deliverRows p network (bytesOf q m)) 18
+  other-order-bytes = below (below (below (below (rows-below (other-order-row p q m differs)))))
+    where
+      rows-below : Applies (readerRows p (bytesOf q m)) 18 → Applies (bytesRows p (bytesOf q m)) 18
+      rows-below (here h) = absurd (omega (arith, h .0))
+      rows-below (below h) = h
+
+  pub other-order-stands : List·Memᴰ (slotOf q m) (slots network) → (bytes : List ℕ) → Applies (deliverRows p network bytes) 5
+  other-order-stands there bytes = below (below (here (refl, (foreign-table p q differs m network there, tt))))

@@ -123,7 +123,7 @@ module _ (p : Plan) (s : System) (role : Role) (k : ℕ) where
 
   pub genuine-restart : (table network : List ℕ)
       → Genuine p s (restart role k table network)
-      ↔ (((table ≡ host .table) ⊎ ((length (host .table) % 6 ≡ 0) × ((n : ℕ) × (table ≡ host .table ++ replicate n 0))))
+      ↔ (((table ≡ host .table) ⊎ ((length (host .table) % 8 ≡ 0) × ((n : ℕ) × (table ≡ host .table ++ replicate n 0))))
       × ((m : Wire.Message) → List·Memᴰ m (messages p network) → List·Memᴰ m (s .wire)))
   genuine-restart table network = (λ h. h, λ h. h)
 

@@ -36,18 +36,19 @@ fn length_of(high: u8, low: u8) -> usize {
     256 * (high as usize) + (low as usize)
 }
 
-fn head_of(b: &[u8; 10]) -> Head {
+fn head_of(b: &[u8; 12]) -> Head {
     let plan = Plan {
         rms: b[1],
         acceptors: b[2],
         leaders: b[3],
+        order: message::order_of(b[4], b[5]),
     };
     Head {
         call: b[0],
         plan,
-        table: length_of(b[4], b[5]),
-        network: length_of(b[6], b[7]),
-        bytes: length_of(b[8], b[9]),
+        table: length_of(b[6], b[7]),
+        network: length_of(b[8], b[9]),
+        bytes: length_of(b[10], b[11]),
     }
 }
 
@@ -165,7 +166,7 @@ fn raw_message(b: &[u8]) -> Message {
     }
 }
 
-// What the writer answers: number, six bytes, length.
+// What the writer answers: number, eight bytes, length.
 fn say_write(plan: Plan, m: Message) {
     let written = codec::write_message(plan, m);
     let bytes = written.bytes;
@@ -292,8 +293,8 @@ fn read_call(head: Head) {
 fn main() {
     let mut k: usize = 0;
     while k < MAX_CALLS {
-        let mut bytes = [0u8; 10];
-        if io::read_full(STDIN_FILENO, &mut bytes) < 10 {
+        let mut bytes = [0u8; 12];
+        if io::read_full(STDIN_FILENO, &mut bytes) < 12 {
             return;
         }
         read_call(head_of(&bytes));

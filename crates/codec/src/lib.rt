@@ -1,4 +1,4 @@
-// The reader and the writer (document 01, "Message bytes"): from a slice to the message that it is, and back.
+// The reader and the writer (document 01, "Message bytes"; document 02, Paper 1): from a slice to the message that it is, and back.
 //
 //     decode_message                 the message that the bytes of a known map make
 //     read_message, read_refusal     the reader
@@ -10,6 +10,11 @@ ghost use mathlib.Core.Path.{_≡_};
 ghost use Rattle.message.specs.Outcome.{numberOf};
 ghost use Rattle.message.specs.Form.{fieldsMessage, decode};
 ghost use Rattle.message.specs.Codec.{readOutcome, readMessage, writeMessage};
+use message::MAP_1A;
+use message::MAP_1B;
+use message::MAP_1B_VOTE;
+use message::MAP_2A;
+use message::MAP_2B;
 use message::Message;
 use message::Plan;
 use message::Read;
@@ -21,10 +26,10 @@ use message::Written;
 fn fields_message(map: u8, b1: u8, b2: u8, b3: u8, b4: u8, b5: u8) -> Message
     ensures { λ r. ⌜ r ≡ fieldsMessage map b1 b2 b3 b4 b5 ⌝ }
 {
-    if map == 0x09 {
+    if map == MAP_1A {
         return Message::Phase1a { ins: b1, bal: b2 };
     }
-    if map == 0x07 {
+    if map == MAP_1B {
         return Message::Phase1b {
             ins: b1,
             acc: b2,
@@ -32,7 +37,7 @@ fn fields_message(map: u8, b1: u8, b2: u8, b3: u8, b4: u8, b5: u8) -> Message
             vote: Vote::None,
         };
     }
-    if map == 0x1F {
+    if map == MAP_1B_VOTE {
         return Message::Phase1b {
             ins: b1,
             acc: b2,
@@ -40,14 +45,14 @@ fn fields_message(map: u8, b1: u8, b2: u8, b3: u8, b4: u8, b5: u8) -> Message
             vote: Vote::Cast { bal: b4, val: b5 },
         };
     }
-    if map == 0x19 {
+    if map == MAP_2A {
         return Message::Phase2a {
             ins: b1,
             bal: b2,
             val: b3,
         };
     }
-    if map == 0x1B {
+    if map == MAP_2B {
         return Message::Phase2b {
             ins: b1,
             acc: b2,

@@ -1,7 +1,7 @@
 -- The tests that rows 1 to 7 and 10 name, majorities and the parts of I, in document 01's own words: each test passes exactly where the sentence
 -- holds. The proofs are in Record/Words.antt.
 --     plan-range                    n from 1 to 16, A from 1 to 7, L from 1 to 4
---     table-length, inboxes-length  whole slots of 6 bytes, at most 1,024; L equal parts of that sort
+--     table-length, inboxes-length  whole slots of 8 bytes, at most 1,024; L equal parts of that sort
 --     states-range                  every byte of W is at most 3
 --     votes-range                   in Q, val is at most 2, and where val is 0 so is bal
 --     table-form                    a table is the slots of its messages, all in range, then unused ones
@@ -52,12 +52,12 @@ pub plan-range : (p : Plan)
     → (isPlan p ≡ true) ↔ ((1 ≤ p .rms) × (p .rms ≤ 16) × (1 ≤ p .acceptors) × (p .acceptors ≤ 7) × (1 ≤ p .leaders) × (p .leaders ≤ 4))
 plan-range = Laws.plan-range
 
-pub table-length : (len : ℕ) → (isTableLength len ≡ true) ↔ ((count : ℕ) × (count ≤ 1024) × (len ≡ 6 * count))
+pub table-length : (len : ℕ) → (isTableLength len ≡ true) ↔ ((count : ℕ) × (count ≤ 1024) × (len ≡ 8 * count))
 table-length = Laws.table-length
 
 pub inboxes-length : (p : Plan) (inboxes : List ℕ) → 0 < p .leaders
     → ((length inboxes % p .leaders ≡ 0) × (isTableLength (inboxSize p inboxes) ≡ true))
-    ↔ ((count : ℕ) × (count ≤ 1024) × (length inboxes ≡ p .leaders * (6 * count)))
+    ↔ ((count : ℕ) × (count ≤ 1024) × (length inboxes ≡ p .leaders * (8 * count)))
 inboxes-length = Laws.inboxes-length
 
 pub states-range : (W : List ℕ) → (areStates W ≡ true) ↔ ((rm : ℕ) → rm < length W → getD W rm 0 ≤ 3)

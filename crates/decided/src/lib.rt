@@ -18,8 +18,13 @@ ghost use Rattle.inbox.specs.Inbox.{decided, forAll, forSome};
 ghost use Rattle.inbox.specs.Inbox.Slots.{messageAt};
 ghost use Rattle.inbox.specs.Inbox.Votes.{tally, voteStep};
 ghost use Rattle.inbox.specs.Inbox.Bits.{quantify};
+use message::ACC;
+use message::BAL_2B;
+use message::INS;
+use message::MAP_2B;
 use message::Plan;
 use message::SLOT_SIZE;
+use message::VAL_2B;
 
 // Two bytes as one number: an instance and a ballot, which is where their set of acceptors stands, or a value and a map.
 fn pair_of(high: u8, low: u8) -> usize
@@ -48,15 +53,15 @@ fn vote_step(
     requires { ⌜ (isPlan plan ≡ true) × (at + slotSize ≤ length (now inbox)) ⌝ }
     ensures { λ r. ⌜ tally (now (masks .exit)) r ≡ voteStep plan value (tally (now (masks .entry)) flags) (messageAt (now (inbox .entry)) at) ⌝ }
 {
-    if pair_of(inbox[at + 4], inbox[at]) != pair_of(value, 0x1B) {
+    if pair_of(inbox[at + VAL_2B], inbox[at]) != pair_of(value, MAP_2B) {
         return flags;
     }
-    let ins = inbox[at + 1];
+    let ins = inbox[at + INS];
     if plan.rms <= ins {
         return flags;
     }
-    let cell = pair_of(ins, inbox[at + 3]);
-    let mask = quorum::insert_bit(masks[cell], inbox[at + 2]);
+    let cell = pair_of(ins, inbox[at + BAL_2B]);
+    let mask = quorum::insert_bit(masks[cell], inbox[at + ACC]);
     masks[cell] = mask;
     if quorum::is_majority(plan.acceptors, mask) {
         return set_flag(flags, ins);

@@ -1,5 +1,5 @@
 -- What demand 1 says of every call's answer.
---     AcceptedOr     an acceptance, or one refusal number from document 01
+--     AcceptedOr     an acceptance, or one refusal number from the documents
 --     KeepsOwn       that, of a role's own call, and a refusal leaves its two tables
 -- Its laws are in Answer/Laws.antt. Assumes nothing.
 pub mod Laws

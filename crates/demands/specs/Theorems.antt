@@ -1,10 +1,10 @@
 -- The demands on one page. `recordStep`, `recordOpen`, `rmStep`, `acceptorStep`, `leaderStep`, `readMessage` and `writeMessage` are what the
 -- contracts of the calls equate their answers and tables with, for all tables, bytes and events: no contract has a `requires`, and every call ends.
---     demand-1, -lowest (-opening, -roles, -messages)      an acceptance or one refusal number from document 01; the lowest that applies; no byte changes
+--     demand-1, -lowest (-opening, -roles, -messages)      an acceptance or one refusal number from the documents; the lowest that applies; no byte changes
 --     demand-2, -acts, -sets, -copies, -published      accepted exactly where the published action is enabled and no other row applies; what is then set
 --     demand-3, -words      over every list of event calls from a fresh record
 --     byte-form, -written   a slice is read as a message exactly where it is the one form of that message
--- Assumes nothing.
+-- For every plan, so for each order number; what keeps other orders out is Orders.antt. Assumes nothing.
 use Prim.Native.Nat.{ℕ, _<_}
 use mathlib.Core.Bool.{true}
 use mathlib.Core.List.{List}
@@ -66,10 +66,10 @@ demand-1-roles p table network e = (
   (accepted-or 1 14 _ refl _ (leader-answers p table network e (λ i. 0) (λ i a. initial)), leader-keeps p table network e),
 )
 
--- the reader and the writer are lent nothing; their rows (`readerRows`, `writerRows`) are 1, 15, 16 and 17
-pub demand-1-messages : (p : Plan) → ((bytes : List ℕ) → AcceptedOr 1 17 (readMessage p bytes)) × ((m : Message) → AcceptedOr 1 17 (answer (writeMessage p m)))
+-- the reader and the writer are lent nothing; their rows (`readerRows`, `writerRows`) are 1 and 15 to 18
+pub demand-1-messages : (p : Plan) → ((bytes : List ℕ) → AcceptedOr 1 18 (readMessage p bytes)) × ((m : Message) → AcceptedOr 1 17 (answer (writeMessage p m)))
 unfolding isWithin
-demand-1-messages p = (λ b. accepted-or 1 17 _ refl _ (reader-answers p b), λ m. accepted-or 1 17 _ refl _ (writer-answers p m))
+demand-1-messages p = (λ b. accepted-or 1 18 _ refl _ (reader-answers p b), λ m. accepted-or 1 17 _ refl _ (writer-answers p m))
 
 module _ (p : Plan) (t : Tables) (e : List ℕ) where
   -- an accepted call: the action, the sent message, the answered slot and every byte of the four tables

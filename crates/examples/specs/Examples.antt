@@ -1,6 +1,6 @@
 -- Document 01's proved examples: one table, and one theorem for it, over the definitions that the calls' contracts name.
 --     Result     what a call answers: the reader's outcome, or a step's answer and tables
---     Example    an example by document 01's number: what is computed, and what document 01 says
+--     Example    an example by document 01's number, with messages as document 02, Paper 1, rewrites them: what is computed, and what is said
 --     examples   the table
 --     examples-hold   each entry computes to what it says
 --     examples-all    the table has all of them
@@ -14,7 +14,7 @@ use Rattle.message.specs.declared.Message.{Message}
 use Rattle.message.specs.declared.Message.the-variants.{Phase1b, Phase2a}
 use Rattle.message.specs.Outcome.{Outcome, accepted, refused, andThen, refuseIf}
 use Rattle.message.specs.Plan.{isPlan, isCount}
-use Rattle.message.specs.Form.{isValue, isVote, isInRange, bytesOf, bytesOf1b, messageLength, slotOf, mapLengths, mapLength, fieldsMessage, decode}
+use Rattle.message.specs.Form.{isValue, isVote, isInRange, bytesOf, bytesOf1b, messageLength, slotOf, mapLengths, mapLength, fieldsMessage, decode, hasOrder}
 use Rattle.message.specs.Codec.{readMessage}
 use Rattle.slots.specs.All.{all}
 use Rattle.slots.specs.Table.{isTableLength, slotsUpTo, slots, isZero, readSlot, readTable, allUnused, isOrdered, isTable, usedMessages, messages}
@@ -40,23 +40,30 @@ pub record Example : Type 0 where
   pub computed : Result
   pub expected : Result
 
--- n = 1, L = 1, and so many acceptors
+-- n = 1, L = 1, order number 01 02, and so many acceptors
 abbrev pub planOf : ℕ → Plan
-planOf acceptors = record { rms = 1; acceptors = acceptors; leaders = 1 }
+planOf acceptors = record { rms = 1; acceptors = acceptors; leaders = 1; order = 0x0102 }
 
 -- an unused slot
 abbrev pub free : List ℕ
-free = 0 ∷ 0 ∷ 0 ∷ 0 ∷ 0 ∷ 0 ∷ []
+free = 0 ∷ 0 ∷ 0 ∷ 0 ∷ 0 ∷ 0 ∷ 0 ∷ 0 ∷ []
 
 -- 1a and 2a of instance 0, and 1b messages of instance 0 with mbal 3 and no vote, as they stand in slots
 abbrev pub slot1a : ℕ → List ℕ
-slot1a bal = 0x09 ∷ 0x00 ∷ bal ∷ 0 ∷ 0 ∷ 0 ∷ []
+slot1a bal = 0x29 ∷ 0x00 ∷ bal ∷ 0x01 ∷ 0x02 ∷ 0 ∷ 0 ∷ 0 ∷ []
 
 abbrev pub slot2a : ℕ → ℕ → List ℕ
-slot2a bal val = 0x19 ∷ 0x00 ∷ bal ∷ val ∷ 0 ∷ 0 ∷ []
+slot2a bal val = 0x39 ∷ 0x00 ∷ bal ∷ val ∷ 0x01 ∷ 0x02 ∷ 0 ∷ 0 ∷ []
 
 abbrev pub slot1b : ℕ → List ℕ
-slot1b acc = 0x07 ∷ 0x00 ∷ acc ∷ 0x03 ∷ 0 ∷ 0 ∷ []
+slot1b acc = 0x27 ∷ 0x00 ∷ acc ∷ 0x03 ∷ 0x01 ∷ 0x02 ∷ 0 ∷ 0 ∷ []
+
+-- a 1b at ballot 3 with a vote, and a 2b for prepared
+abbrev pub slot1bVote : ℕ → ℕ → ℕ → List ℕ
+slot1bVote acc bal val = 0x3F ∷ 0x00 ∷ acc ∷ 0x03 ∷ bal ∷ val ∷ 0x01 ∷ 0x02 ∷ []
+
+abbrev pub slot2b : ℕ → ℕ → List ℕ
+slot2b acc bal = 0x3B ∷ 0x00 ∷ acc ∷ bal ∷ 0x01 ∷ 0x01 ∷ 0x02 ∷ 0 ∷ []
 
 abbrev pub stepOf : Outcome Sent → List ℕ → List ℕ → Result
 stepOf answer table network = steps (record { answer = answer; table = table; network = network })
@@ -71,21 +78,20 @@ phase2aAt3 acceptors inbox = steps (leaderStep (planOf acceptors) (inbox ++ free
 
 pub examples : List Example
 examples =
-    record { number = 1; computed = reads (readMessage (planOf 1) (0x19 ∷ 0x00 ∷ 0x00 ∷ 0x01 ∷ [])); expected = reads (accepted (Phase2a 0 0 1)) }
-    ∷ record { number = 2; computed = reads (readMessage (planOf 1) (0x07 ∷ 0x00 ∷ 0x00 ∷ 0x01 ∷ [])); expected = reads (accepted (Phase1b 0 0 1 None)) }
+    record { number = 1; computed = reads (readMessage (planOf 1) (0x39 ∷ 0x00 ∷ 0x00 ∷ 0x01 ∷ 0x01 ∷ 0x02 ∷ [])); expected = reads (accepted (Phase2a 0 0 1)) }
+    ∷ record { number = 2; computed = reads (readMessage (planOf 1) (0x27 ∷ 0x00 ∷ 0x00 ∷ 0x01 ∷ 0x01 ∷ 0x02 ∷ [])); expected = reads (accepted (Phase1b 0 0 1 None)) }
     ∷ record { number = 3; computed = reads (readMessage (planOf 1) (0x00 ∷ [])); expected = reads (refused 15) }
-    ∷ record { number = 4; computed = reads (readMessage (planOf 1) (0x19 ∷ 0x00 ∷ 0x00 ∷ [])); expected = reads (refused 16) }
-    ∷ record { number = 5; computed = reads (readMessage (planOf 1) (0x19 ∷ 0x00 ∷ 0x00 ∷ 0x03 ∷ [])); expected = reads (refused 17) }
-    ∷ record { number = 6; computed = reads (readMessage (planOf 1) (0x09 ∷ 0x00 ∷ 0x00 ∷ [])); expected = reads (refused 17) }
-    ∷ record { number = 7; computed = acceptorAt2 (slot2a 2 1); expected = stepOf (accepted (Slot 1)) (0x02 ∷ 0x02 ∷ 0x01 ∷ []) (slot2a 2 1 ++ (0x1B ∷ 0 ∷ 0 ∷ 2 ∷ 1 ∷ 0 ∷ [])) }
+    ∷ record { number = 4; computed = reads (readMessage (planOf 1) (0x39 ∷ 0x00 ∷ 0x00 ∷ 0x01 ∷ 0x02 ∷ [])); expected = reads (refused 16) }
+    ∷ record { number = 5; computed = reads (readMessage (planOf 1) (0x39 ∷ 0x00 ∷ 0x00 ∷ 0x03 ∷ 0x01 ∷ 0x02 ∷ [])); expected = reads (refused 17) }
+    ∷ record { number = 6; computed = reads (readMessage (planOf 1) (0x29 ∷ 0x00 ∷ 0x00 ∷ 0x01 ∷ 0x02 ∷ [])); expected = reads (refused 17) }
+    ∷ record { number = 7; computed = acceptorAt2 (slot2a 2 1); expected = stepOf (accepted (Slot 1)) (0x02 ∷ 0x02 ∷ 0x01 ∷ []) (slot2a 2 1 ++ slot2b 0 2) }
     ∷ record { number = 8; computed = acceptorAt2 (slot2a 1 1); expected = stepOf (refused 12) (0x02 ∷ 0x00 ∷ 0x00 ∷ []) (slot2a 1 1 ++ free) }
     ∷ record { number = 9; computed = acceptorAt2 (slot1a 2); expected = stepOf (refused 12) (0x02 ∷ 0x00 ∷ 0x00 ∷ []) (slot1a 2 ++ free) }
-    ∷ record { number = 10; computed = acceptorAt2 (slot1a 3); expected = stepOf (accepted (Slot 1)) (0x03 ∷ 0x00 ∷ 0x00 ∷ []) (slot1a 3 ++ (0x07 ∷ 0 ∷ 0 ∷ 3 ∷ 0 ∷ 0 ∷ [])) }
+    ∷ record { number = 10; computed = acceptorAt2 (slot1a 3); expected = stepOf (accepted (Slot 1)) (0x03 ∷ 0x00 ∷ 0x00 ∷ []) (slot1a 3 ++ slot1b 0) }
     ∷ record {
       number = 11;
-      computed = phase2aAt3 3 ((0x1F ∷ 0x00 ∷ 0x00 ∷ 0x03 ∷ 0x00 ∷ 0x01 ∷ []) ++ (0x1F ∷ 0x00 ∷ 0x01 ∷ 0x03 ∷ 0x02 ∷ 0x02 ∷ []));
-      expected = stepOf (accepted (Slot 0)) ((0x1F ∷ 0x00 ∷ 0x00 ∷ 0x03 ∷ 0x00 ∷ 0x01 ∷ []) ++ ((0x1F ∷ 0x00 ∷ 0x01 ∷ 0x03 ∷ 0x02 ∷ 0x02 ∷ []) ++
-          (0x19 ∷ 0x00 ∷ 0x03 ∷ 0x02 ∷ 0 ∷ 0 ∷ []))) (0x19 ∷ 0x00 ∷ 0x03 ∷ 0x02 ∷ 0 ∷ 0 ∷ []);
+      computed = phase2aAt3 3 (slot1bVote 0 0 1 ++ slot1bVote 1 2 2);
+      expected = stepOf (accepted (Slot 0)) (slot1bVote 0 0 1 ++ (slot1bVote 1 2 2 ++ slot2a 3 2)) (slot2a 3 2);
     }
     ∷ record { number = 12; computed = phase2aAt3 4 (slot1b 0 ++ slot1b 1); expected = stepOf (refused 12) (slot1b 0 ++ (slot1b 1 ++ free)) free }
     ∷ record {
@@ -96,14 +102,14 @@ examples =
     }
     ∷ record {
       number = 13;
-      computed = steps (leaderStep (planOf 3) ((0x1B ∷ 0 ∷ 0 ∷ 0 ∷ 1 ∷ 0 ∷ []) ++ ((0x1B ∷ 0 ∷ 1 ∷ 3 ∷ 1 ∷ 0 ∷ []) ++ free)) free (7 ∷ 0 ∷ 0 ∷ 0 ∷ []));
-      expected = stepOf (refused 12) ((0x1B ∷ 0 ∷ 0 ∷ 0 ∷ 1 ∷ 0 ∷ []) ++ ((0x1B ∷ 0 ∷ 1 ∷ 3 ∷ 1 ∷ 0 ∷ []) ++ free)) free;
+      computed = steps (leaderStep (planOf 3) (slot2b 0 0 ++ (slot2b 1 3 ++ free)) free (7 ∷ 0 ∷ 0 ∷ 0 ∷ []));
+      expected = stepOf (refused 12) (slot2b 0 0 ++ (slot2b 1 3 ++ free)) free;
     }
     ∷ []
 
 pub examples-hold : map (λ (e : Example). e .computed) examples ≡ map (λ (e : Example). e .expected) examples
 unfolding examples readMessage andThen refuseIf isPlan isCount isValue isVote isInRange bytesOf bytesOf1b messageLength slotOf mapLengths
-    mapLength fieldsMessage decode all isTableLength slotsUpTo slots isZero readSlot readTable allUnused isOrdered isTable usedMessages
+    mapLength fieldsMessage decode hasOrder all isTableLength slotsUpTo slots isZero readSlot readTable allUnused isOrdered isTable usedMessages
     messages sameBytes storeAt sameMessage placeFrom placeIn messageAt sending slotNumber whoLimit areZero areArguments isEvent voteAt
     isVoteState areVotes acceptorJudged voteOf phase1b phase2b acceptorReceive acceptorVerdict acceptorStep countAcceptors isMajority
     isQuorum any is1b is2a is2b higher reportOf highestReport proposal chosen isChosen2b decided forAll owns leaderJudged phase2aMessage

@@ -3,17 +3,19 @@
 --     order, fresh          the plan and the fresh record
 --     committing, aborting, declining     the lists of calls
 --     orders-end            what they answer, and W afterwards
+--     order-examples        an old map, a bad field of another order, other orders by either byte, and a Commit of this order and of another
 --     on, unused, refusals     each number of the event call, on tables given byte by byte
 --     spread, places        three weights, three acceptors and two leaders: where each call puts its bytes in the four tables
 -- Assumes nothing.
 use Prim.Native.Nat.{ℕ}
-use mathlib.Core.List.{List, [], _∷_, _++_}
+use mathlib.Core.List.{List, [], _∷_, _++_, map}
 use mathlib.Core.Path.{_≡_, refl}
 use lib.ListN.{replicate}
 use Rattle.message.specs.declared.Plan.{Plan}
+use Rattle.message.specs.declared.Message.the-variants.{Decision}
 use Rattle.message.specs.Outcome.{Outcome, accepted, refused, andThen, refuseIf}
 use Rattle.message.specs.Plan.{isPlan, isCount}
-use Rattle.message.specs.Form.{isValue, isVote, isInRange, bytesOf, bytesOf1b, messageLength, slotOf, mapLengths, mapLength, fieldsMessage, decode}
+use Rattle.message.specs.Form.{isValue, isVote, isInRange, bytesOf, bytesOf1b, messageLength, slotOf, mapLengths, mapLength, fieldsMessage, decode, hasOrder}
 use Rattle.message.specs.Codec.{readMessage}
 use Rattle.slots.specs.All.{all}
 use Rattle.slots.specs.Table.{isTableLength, slotsUpTo, slots, isZero, readSlot, readTable, allUnused, isOrdered, isTable, usedMessages, messages}
@@ -34,10 +36,10 @@ use Rattle.record.specs.Record.{Tables, tablesOf, inboxSize, inboxOf, withInbox
 use Rattle.safety.specs.Theorems.{Call, event, answers, tablesAfter}
 
 abbrev pub order : Plan
-order = record { rms = 1; acceptors = 1; leaders = 1 }
+order = record { rms = 1; acceptors = 1; leaders = 1; order = 0x0102 }
 
 abbrev pub fresh : Tables
-fresh = tablesOf (replicate 1 0) (replicate 3 0) (replicate 36 0) (replicate 36 0)
+fresh = tablesOf (replicate 1 0) (replicate 3 0) (replicate 48 0) (replicate 48 0)
 
 abbrev pub call : ℕ → ℕ → ℕ → Call
 call kind high low = event (kind ∷ 0 ∷ high ∷ low ∷ [])
@@ -64,7 +66,7 @@ pub orders-end :
     × (answers order fresh declining ≡ accepted (Slot 0) ∷ [])
     × (tablesAfter order fresh declining .states ≡ 3 ∷ [])
 unfolding readMessage andThen refuseIf isPlan isCount isValue isVote isInRange bytesOf bytesOf1b messageLength slotOf mapLengths
-    mapLength fieldsMessage decode all isTableLength slotsUpTo slots isZero readSlot readTable allUnused isOrdered isTable usedMessages
+    mapLength fieldsMessage decode hasOrder all isTableLength slotsUpTo slots isZero readSlot readTable allUnused isOrdered isTable usedMessages
     messages sameBytes storeAt sameMessage placeFrom placeIn messageAt sending slotNumber whoLimit areZero areArguments isEvent
     areStates rmJudged rmChoose rmReceiveDecision rmReceive rmKind rmVerdict rmStep voteAt
     isVoteState areVotes acceptorJudged voteOf phase1b phase2b acceptorReceive acceptorVerdict acceptorStep countAcceptors isMajority
@@ -79,13 +81,13 @@ spread = event (5 ∷ 1 ∷ 2 ∷ 3 ∷ []) ∷ event (3 ∷ 1 ∷ 0 ∷ 0 ∷ [
 
 -- mbal of weight 2 and acceptor 1 is byte 3 × (2 × 3 + 1) of Q, and leader 1's inbox begins in the middle of I
 pub places :
-    tablesAfter (record { rms = 3; acceptors = 3; leaders = 2 })
-    (tablesOf (replicate 3 0) (replicate 27 0) (replicate 24 0) (replicate 24 0)) spread
+    tablesAfter (record { rms = 3; acceptors = 3; leaders = 2; order = 0x0102 })
+    (tablesOf (replicate 3 0) (replicate 27 0) (replicate 32 0) (replicate 32 0)) spread
     ≡ tablesOf (0 ∷ 0 ∷ 1 ∷ []) (replicate 21 0 ++ (3 ∷ replicate 5 0))
-    ((0x09 ∷ 2 ∷ 3 ∷ 0 ∷ 0 ∷ 0 ∷ []) ++ ((0x07 ∷ 2 ∷ 1 ∷ 3 ∷ 0 ∷ 0 ∷ []) ++ ((0x19 ∷ 2 ∷ 0 ∷ 1 ∷ 0 ∷ 0 ∷ []) ++ replicate 6 0)))
-    (replicate 12 0 ++ ((0x07 ∷ 2 ∷ 1 ∷ 3 ∷ 0 ∷ 0 ∷ []) ++ replicate 6 0))
+    ((0x29 ∷ 2 ∷ 3 ∷ 1 ∷ 2 ∷ 0 ∷ 0 ∷ 0 ∷ []) ++ ((0x27 ∷ 2 ∷ 1 ∷ 3 ∷ 1 ∷ 2 ∷ 0 ∷ 0 ∷ []) ++ ((0x39 ∷ 2 ∷ 0 ∷ 1 ∷ 1 ∷ 2 ∷ 0 ∷ 0 ∷ []) ++ replicate 8 0)))
+    (replicate 16 0 ++ ((0x27 ∷ 2 ∷ 1 ∷ 3 ∷ 1 ∷ 2 ∷ 0 ∷ 0 ∷ []) ++ replicate 8 0))
 unfolding readMessage andThen refuseIf isPlan isCount isValue isVote isInRange bytesOf bytesOf1b messageLength slotOf mapLengths
-    mapLength fieldsMessage decode all isTableLength slotsUpTo slots isZero readSlot readTable allUnused isOrdered isTable usedMessages
+    mapLength fieldsMessage decode hasOrder all isTableLength slotsUpTo slots isZero readSlot readTable allUnused isOrdered isTable usedMessages
     messages sameBytes storeAt sameMessage placeFrom placeIn messageAt sending slotNumber whoLimit areZero areArguments isEvent
     areStates rmJudged rmChoose rmReceiveDecision rmReceive rmKind rmVerdict rmStep voteAt
     isVoteState areVotes acceptorJudged voteOf phase1b phase2b acceptorReceive acceptorVerdict acceptorStep countAcceptors isMajority
@@ -94,43 +96,58 @@ unfolding readMessage andThen refuseIf isPlan isCount isValue isVote isInRange b
     inboxSize inboxOf withInbox areLengths areInboxes recordJudged roleStep recordStep
 places = refl
 
+-- the order number is 0102 (document 02, Paper 1)
+pub order-examples : map (readMessage order)
+    ((0x19 ∷ 0 ∷ 0 ∷ 1 ∷ [])
+    ∷ (0x39 ∷ 0 ∷ 0 ∷ 3 ∷ 1 ∷ 3 ∷ [])
+    ∷ (0x39 ∷ 0 ∷ 0 ∷ 1 ∷ 1 ∷ 3 ∷ [])
+    ∷ (0x39 ∷ 0 ∷ 0 ∷ 1 ∷ 2 ∷ 2 ∷ [])
+    ∷ (0x30 ∷ 1 ∷ 1 ∷ 2 ∷ [])
+    ∷ (0x30 ∷ 1 ∷ 2 ∷ 1 ∷ [])
+    ∷ [])
+    ≡ refused 15 ∷ refused 17 ∷ refused 18 ∷ refused 18 ∷ accepted (Decision 1) ∷ refused 18 ∷ []
+unfolding readMessage refuseIf isPlan isCount isValue isVote isInRange mapLengths mapLength fieldsMessage decode hasOrder
+order-examples = refl
+
 -- an event call on a record of one weight, one acceptor and one leader: its answer
 abbrev pub on : List ℕ → List ℕ → List ℕ → List ℕ → List ℕ → Outcome Sent
 on w q n i e = recordStep order (tablesOf w q n i) e .answer
 
 -- one unused slot
 abbrev pub unused : List ℕ
-unused = 0 ∷ 0 ∷ 0 ∷ 0 ∷ 0 ∷ 0 ∷ []
+unused = 0 ∷ 0 ∷ 0 ∷ 0 ∷ 0 ∷ 0 ∷ 0 ∷ 0 ∷ []
 
 -- each row of "Refusals by place" for the event call, in bytes
 pub refusals :
-    (recordStep (record { rms = 0; acceptors = 1; leaders = 1 }) (tablesOf [] [] [] []) (0 ∷ 0 ∷ 0 ∷ 0 ∷ []) .answer ≡ refused 1)
+    (recordStep (record { rms = 0; acceptors = 1; leaders = 1; order = 0x0102 }) (tablesOf [] [] [] []) (0 ∷ 0 ∷ 0 ∷ 0 ∷ []) .answer ≡ refused 1)
     × (on (0 ∷ 0 ∷ []) (0 ∷ 0 ∷ 0 ∷ []) unused unused (0 ∷ 0 ∷ 0 ∷ 0 ∷ []) ≡ refused 2)
     × (on (4 ∷ []) (0 ∷ 0 ∷ 3 ∷ []) unused unused (0 ∷ 0 ∷ 0 ∷ 0 ∷ []) ≡ refused 3)
     × (on (0 ∷ []) (0 ∷ 0 ∷ 3 ∷ []) unused unused (0 ∷ 0 ∷ 0 ∷ 0 ∷ []) ≡ refused 4)
     × (on (0 ∷ []) (0 ∷ 1 ∷ 0 ∷ []) unused unused (0 ∷ 0 ∷ 0 ∷ 0 ∷ []) ≡ refused 4)
-    × (on (0 ∷ []) (0 ∷ 0 ∷ 0 ∷ []) (0x10 ∷ 3 ∷ 0 ∷ 0 ∷ 0 ∷ 0 ∷ []) unused (0 ∷ 0 ∷ 0 ∷ 0 ∷ []) ≡ refused 5)
-    × (on (0 ∷ []) (0 ∷ 0 ∷ 0 ∷ []) (unused ++ (0x10 ∷ 1 ∷ 0 ∷ 0 ∷ 0 ∷ 0 ∷ [])) unused (0 ∷ 0 ∷ 0 ∷ 0 ∷ []) ≡ refused 5)
-    × (on (0 ∷ []) (0 ∷ 0 ∷ 0 ∷ []) unused (0x10 ∷ 1 ∷ 1 ∷ 0 ∷ 0 ∷ 0 ∷ []) (0 ∷ 0 ∷ 0 ∷ 0 ∷ []) ≡ refused 6)
+    × (on (0 ∷ []) (0 ∷ 0 ∷ 0 ∷ []) (0x30 ∷ 3 ∷ 1 ∷ 2 ∷ 0 ∷ 0 ∷ 0 ∷ 0 ∷ []) unused (0 ∷ 0 ∷ 0 ∷ 0 ∷ []) ≡ refused 5)
+    × (on (0 ∷ []) (0 ∷ 0 ∷ 0 ∷ []) (unused ++ (0x30 ∷ 1 ∷ 1 ∷ 2 ∷ 0 ∷ 0 ∷ 0 ∷ 0 ∷ [])) unused (0 ∷ 0 ∷ 0 ∷ 0 ∷ []) ≡ refused 5)
+    × (on (0 ∷ []) (0 ∷ 0 ∷ 0 ∷ []) unused (0x30 ∷ 1 ∷ 1 ∷ 2 ∷ 1 ∷ 0 ∷ 0 ∷ 0 ∷ []) (0 ∷ 0 ∷ 0 ∷ 0 ∷ []) ≡ refused 6)
+    × (on (0 ∷ []) (0 ∷ 0 ∷ 0 ∷ []) (0x30 ∷ 1 ∷ 1 ∷ 3 ∷ 0 ∷ 0 ∷ 0 ∷ 0 ∷ []) unused (2 ∷ 0 ∷ 0 ∷ 0 ∷ []) ≡ refused 5)
+    × (on (0 ∷ []) (0 ∷ 0 ∷ 0 ∷ []) unused (0x30 ∷ 1 ∷ 3 ∷ 2 ∷ 0 ∷ 0 ∷ 0 ∷ 0 ∷ []) (0 ∷ 0 ∷ 0 ∷ 0 ∷ []) ≡ refused 6)
     × (on (0 ∷ []) (0 ∷ 0 ∷ 0 ∷ []) unused unused (0 ∷ 0 ∷ 0 ∷ 0 ∷ 0 ∷ []) ≡ refused 7)
     × (on (0 ∷ []) (0 ∷ 0 ∷ 0 ∷ []) unused unused (9 ∷ 0 ∷ 0 ∷ 0 ∷ []) ≡ refused 7)
     × (on (0 ∷ []) (0 ∷ 0 ∷ 0 ∷ []) unused unused (2 ∷ 0 ∷ 0 ∷ 0 ∷ []) ≡ refused 8)
-    × (on (0 ∷ []) (0 ∷ 0 ∷ 0 ∷ []) (0x09 ∷ 0 ∷ 1 ∷ 0 ∷ 0 ∷ 0 ∷ []) unused (2 ∷ 0 ∷ 0 ∷ 0 ∷ []) ≡ refused 9)
-    × (on (0 ∷ []) (0 ∷ 0 ∷ 0 ∷ []) (0x10 ∷ 1 ∷ 0 ∷ 0 ∷ 0 ∷ 0 ∷ []) unused (3 ∷ 0 ∷ 0 ∷ 0 ∷ []) ≡ refused 9)
-    × (on (0 ∷ []) (0 ∷ 0 ∷ 0 ∷ []) (0x19 ∷ 0 ∷ 0 ∷ 1 ∷ 0 ∷ 0 ∷ []) unused (4 ∷ 0 ∷ 0 ∷ 0 ∷ []) ≡ refused 9)
+    × (on (0 ∷ []) (0 ∷ 0 ∷ 0 ∷ []) (0x29 ∷ 0 ∷ 1 ∷ 1 ∷ 2 ∷ 0 ∷ 0 ∷ 0 ∷ []) unused (2 ∷ 0 ∷ 0 ∷ 0 ∷ []) ≡ refused 9)
+    × (on (0 ∷ []) (0 ∷ 0 ∷ 0 ∷ []) (0x30 ∷ 1 ∷ 1 ∷ 2 ∷ 0 ∷ 0 ∷ 0 ∷ 0 ∷ []) unused (3 ∷ 0 ∷ 0 ∷ 0 ∷ []) ≡ refused 9)
+    × (on (0 ∷ []) (0 ∷ 0 ∷ 0 ∷ []) (0x39 ∷ 0 ∷ 0 ∷ 1 ∷ 1 ∷ 2 ∷ 0 ∷ 0 ∷ []) unused (4 ∷ 0 ∷ 0 ∷ 0 ∷ []) ≡ refused 9)
     × (on (0 ∷ []) (0 ∷ 0 ∷ 0 ∷ []) unused unused (5 ∷ 0 ∷ 0 ∷ 0 ∷ []) ≡ refused 10)
-    × (on (0 ∷ []) (0 ∷ 0 ∷ 0 ∷ []) (0x10 ∷ 1 ∷ 0 ∷ 0 ∷ 0 ∷ 0 ∷ []) unused (2 ∷ 0 ∷ 0 ∷ 0 ∷ []) ≡ refused 11)
-    × (on (3 ∷ []) (0 ∷ 0 ∷ 0 ∷ []) (0x10 ∷ 1 ∷ 0 ∷ 0 ∷ 0 ∷ 0 ∷ []) unused (2 ∷ 0 ∷ 0 ∷ 0 ∷ []) ≡ refused 11)
-    × (on (2 ∷ []) (0 ∷ 0 ∷ 0 ∷ []) (0x10 ∷ 2 ∷ 0 ∷ 0 ∷ 0 ∷ 0 ∷ []) unused (2 ∷ 0 ∷ 0 ∷ 0 ∷ []) ≡ refused 11)
+    × (on (0 ∷ []) (0 ∷ 0 ∷ 0 ∷ []) (0x30 ∷ 1 ∷ 1 ∷ 2 ∷ 0 ∷ 0 ∷ 0 ∷ 0 ∷ []) unused (2 ∷ 0 ∷ 0 ∷ 0 ∷ []) ≡ refused 11)
+    × (on (3 ∷ []) (0 ∷ 0 ∷ 0 ∷ []) (0x30 ∷ 1 ∷ 1 ∷ 2 ∷ 0 ∷ 0 ∷ 0 ∷ 0 ∷ []) unused (2 ∷ 0 ∷ 0 ∷ 0 ∷ []) ≡ refused 11)
+    × (on (2 ∷ []) (0 ∷ 0 ∷ 0 ∷ []) (0x30 ∷ 2 ∷ 1 ∷ 2 ∷ 0 ∷ 0 ∷ 0 ∷ 0 ∷ []) unused (2 ∷ 0 ∷ 0 ∷ 0 ∷ []) ≡ refused 11)
     × (on (1 ∷ []) (0 ∷ 0 ∷ 0 ∷ []) unused unused (0 ∷ 0 ∷ 0 ∷ 0 ∷ []) ≡ refused 12)
-    × (on (0 ∷ []) (0 ∷ 0 ∷ 0 ∷ []) (0x10 ∷ 2 ∷ 0 ∷ 0 ∷ 0 ∷ 0 ∷ []) unused (0 ∷ 0 ∷ 0 ∷ 0 ∷ []) ≡ refused 13)
-    × (on (0 ∷ []) (0 ∷ 0 ∷ 0 ∷ []) (0x07 ∷ 0 ∷ 0 ∷ 1 ∷ 0 ∷ 0 ∷ []) (0x07 ∷ 0 ∷ 0 ∷ 2 ∷ 0 ∷ 0 ∷ []) (4 ∷ 0 ∷ 0 ∷ 0 ∷ []) ≡ refused 14)
+    × (on (0 ∷ []) (0 ∷ 0 ∷ 0 ∷ []) (0x30 ∷ 2 ∷ 1 ∷ 2 ∷ 0 ∷ 0 ∷ 0 ∷ 0 ∷ []) unused (0 ∷ 0 ∷ 0 ∷ 0 ∷ []) ≡ refused 13)
+    × (on (0 ∷ []) (0 ∷ 0 ∷ 0 ∷ []) (0x27 ∷ 0 ∷ 0 ∷ 1 ∷ 1 ∷ 2 ∷ 0 ∷ 0 ∷ []) (0x27 ∷ 0 ∷ 0 ∷ 2 ∷ 1 ∷ 2 ∷ 0 ∷ 0 ∷ []) (4 ∷ 0 ∷ 0 ∷ 0 ∷ []) ≡ refused 14)
 unfolding readMessage andThen refuseIf isPlan isCount isValue isVote isInRange bytesOf bytesOf1b messageLength slotOf mapLengths
-    mapLength fieldsMessage decode all isTableLength slotsUpTo slots isZero readSlot readTable allUnused isOrdered isTable usedMessages
+    mapLength fieldsMessage decode hasOrder all isTableLength slotsUpTo slots isZero readSlot readTable allUnused isOrdered isTable usedMessages
     messages sameBytes storeAt sameMessage placeFrom placeIn messageAt sending slotNumber whoLimit areZero areArguments isEvent
     areStates rmJudged rmChoose rmReceiveDecision rmReceive rmKind rmVerdict rmStep voteAt
     isVoteState areVotes acceptorJudged voteOf phase1b phase2b acceptorReceive acceptorVerdict acceptorStep countAcceptors isMajority
     isQuorum any is1b is2a is2b higher reportOf highestReport proposal chosen isChosen2b decided forAll forSome owns leaderJudged
     receiptStore receipt phase1a phase2aMessage keepOwn sendBoth phase2a sendOnly decideSend leaderKind leaderVerdict leaderStep
     inboxSize inboxOf withInbox areLengths areInboxes recordJudged roleStep recordStep
-refusals = (refl, refl, refl, refl, refl, refl, refl, refl, refl, refl, refl, refl, refl, refl, refl, refl, refl, refl, refl, refl, refl)
+refusals = (refl, refl, refl, refl, refl, refl, refl, refl, refl, refl, refl, refl, refl, refl, refl, refl, refl, refl, refl, refl, refl, refl, refl)

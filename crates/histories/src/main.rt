@@ -42,20 +42,21 @@ fn number_of(high: u8, low: u8) -> usize {
     256 * (high as usize) + (low as usize)
 }
 
-fn head_of(b: &[u8; 14]) -> Head {
+fn head_of(b: &[u8; 16]) -> Head {
     let plan = Plan {
         rms: b[1],
         acceptors: b[2],
         leaders: b[3],
+        order: message::order_of(b[4], b[5]),
     };
     Head {
         mode: b[0],
         plan,
-        states: number_of(b[4], b[5]),
-        votes: number_of(b[6], b[7]),
-        network: number_of(b[8], b[9]),
-        inboxes: number_of(b[10], b[11]),
-        events: number_of(b[12], b[13]),
+        states: number_of(b[6], b[7]),
+        votes: number_of(b[8], b[9]),
+        network: number_of(b[10], b[11]),
+        inboxes: number_of(b[12], b[13]),
+        events: number_of(b[14], b[15]),
     }
 }
 
@@ -291,8 +292,8 @@ fn run_history(head: Head) {
 fn main() {
     let mut k: usize = 0;
     while k < MAX_HISTORIES {
-        let mut bytes = [0u8; 14];
-        if io::read_full(STDIN_FILENO, &mut bytes) < 14 {
+        let mut bytes = [0u8; 16];
+        if io::read_full(STDIN_FILENO, &mut bytes) < 16 {
             return;
         }
         run_history(head_of(&bytes));

@@ -12,17 +12,19 @@ pub extern "C" fn paxos_commit_acceptor_step(
     rms: u8,
     acceptors: u8,
     leaders: u8,
+    order: u16,
     votes: &mut [u8],
     network: &mut [u8],
     event: &[u8],
 ) -> u32
     ensures { λ r. ⌜ hostStep r (now (votes .exit)) (now (network .exit)) ≡
-        hostStepOf (acceptorStep (planOf rms acceptors leaders) (now (votes .entry)) (now (network .entry)) (now (event .entry))) ⌝ }
+        hostStepOf (acceptorStep (planOf rms acceptors leaders order) (now (votes .entry)) (now (network .entry)) (now (event .entry))) ⌝ }
 {
     let plan = Plan {
         rms,
         acceptors,
         leaders,
+        order,
     };
     host_code::answer_code(acceptor_call::step(plan, votes, network, event))
 }

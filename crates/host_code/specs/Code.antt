@@ -1,5 +1,5 @@
 -- What the calls for other languages are given and answer, as numbers.
---     planOf                           the plan of three counts
+--     planOf                           the plan of three counts and an order number
 --     sentCode, answerCode             the number of a step's answer
 --     HostStep, hostStep, hostStepOf   a role's step with that number for its answer
 --     packed, areBytes                 several bytes as one number; whether numbers are bytes
@@ -17,8 +17,8 @@ use Rattle.change.specs.declared.Sent.{Sent}
 use Rattle.change.specs.declared.Sent.the-variants.{Slot, Quiet}
 use Rattle.change.specs.Change.{Step}
 
-abbrev pub planOf : ℕ → ℕ → ℕ → Plan
-planOf rms acceptors leaders = record { rms = rms; acceptors = acceptors; leaders = leaders }
+abbrev pub planOf : ℕ → ℕ → ℕ → ℕ → Plan
+planOf rms acceptors leaders order = record { rms = rms; acceptors = acceptors; leaders = leaders; order = order }
 
 -- a slot is its number, quiet is 65535. A slot of N is below 1,024, so no call answers 65534
 abbrev pub sentCode : Sent → ℕ

@@ -1,5 +1,5 @@
 -- What the numbers stand for, and that no number stands for two answers of a step.
---     plan-means     the three counts are n, A and L
+--     plan-means     the three counts are n, A and L, and after them the order number
 --     code-means     a slot is its number, quiet 65535, refusal k 65536 + k
 --     step-means     a role's step for other languages is that number and the two tables
 --     packed-means   byte k of a number of eight bytes stands at 256^k
@@ -22,8 +22,12 @@ use Rattle.change.specs.Change.{Step}
 use Rattle.host_code.specs.Code.{planOf, answerCode, hostStep, hostStepOf, packed, areBytes}
 use Rattle.host_code.specs.Code.Laws.{slotCode}
 
-pub plan-means : (n A L : ℕ) → (planOf n A L .rms ≡ n) × (planOf n A L .acceptors ≡ A) × (planOf n A L .leaders ≡ L)
-plan-means n A L = (refl, refl, refl)
+pub plan-means : (n A L order : ℕ)
+    → (planOf n A L order .rms ≡ n)
+    × (planOf n A L order .acceptors ≡ A)
+    × (planOf n A L order .leaders ≡ L)
+    × (planOf n A L order .order ≡ order)
+plan-means n A L order = (refl, refl, refl, refl)
 
 pub code-means : ((s : ℕ) → s < 1024 → answerCode (accepted (Slot s)) ≡ s) × (answerCode (accepted Quiet) ≡ 65535) × ((k : ℕ) → answerCode (refused k) ≡ 65536 + k)
 code-means = (slotCode, refl, λ k. refl)

@@ -8,7 +8,7 @@ use mathlib.Core.Path.{_≡_, refl, ap}
 use lib.ListN.{replicate}
 use Rattle.message.specs.Outcome.{accepted, refused, andThen, refuseIf}
 use Rattle.message.specs.Plan.{isCount, isPlan}
-use Rattle.message.specs.Form.{isValue, isVote, isInRange, bytesOf1b, bytesOf, messageLength, slotOf, mapLengths, mapLength, fieldsMessage, decode}
+use Rattle.message.specs.Form.{isValue, isVote, isInRange, bytesOf1b, bytesOf, messageLength, slotOf, mapLengths, mapLength, fieldsMessage, decode, hasOrder}
 use Rattle.message.specs.Codec.{readMessage}
 use Rattle.slots.specs.All.{all}
 use Rattle.slots.specs.Table.{isTableLength, slotsUpTo, slots, isZero, readSlot, readTable, allUnused, isOrdered, isTable, usedMessages, messages}
@@ -27,19 +27,23 @@ pub delivery-means : (k : ℕ) (network : List ℕ)
     × (hostDeliveryOf (record { answer = refused k; network = network }) ≡ hostDelivery (65536 + k) network)
 delivery-means k network = (refl, refl, λ below. ap (λ (n : ℕ). hostDelivery n network) (code-means .0 k below), refl)
 
--- a Commit into an N of two slots with a 2a in it, and again; then 13, 15, 16 and 17; and 1, 2 and 5, each before a slice that is no message
+-- a Commit of order 0102 into an N of two slots with a 2a in it, and again; then 13 and 15 to 18; and 1, 2 and 5, each before a slice that is
+-- no message
 pub deliver-examples :
-    (hostDeliveryOf (deliverStep (planOf 1 1 1) (0x19 ∷ 0 ∷ 0 ∷ 1 ∷ replicate 8 0) (0x10 ∷ 1 ∷ []))
-    ≡ hostDelivery 1 (0x19 ∷ 0 ∷ 0 ∷ 1 ∷ 0 ∷ 0 ∷ 0x10 ∷ 1 ∷ replicate 4 0))
-    × (hostDeliveryOf (deliverStep (planOf 1 1 1) (0x10 ∷ 1 ∷ replicate 10 0) (0x10 ∷ 1 ∷ [])) ≡ hostDelivery 0 (0x10 ∷ 1 ∷ replicate 10 0))
-    × (hostDeliveryOf (deliverStep (planOf 1 1 1) (0x10 ∷ 1 ∷ replicate 4 0) (0x09 ∷ 0 ∷ 1 ∷ [])) ≡ hostDelivery 65549 (0x10 ∷ 1 ∷ replicate 4 0))
-    × (hostDeliveryOf (deliverStep (planOf 1 1 1) (replicate 6 0) (0x11 ∷ [])) ≡ hostDelivery 65551 (replicate 6 0))
-    × (hostDeliveryOf (deliverStep (planOf 1 1 1) (replicate 6 0) (0x10 ∷ [])) ≡ hostDelivery 65552 (replicate 6 0))
-    × (hostDeliveryOf (deliverStep (planOf 1 1 1) (replicate 6 0) (0x10 ∷ 3 ∷ [])) ≡ hostDelivery 65553 (replicate 6 0))
-    × (hostDeliveryOf (deliverStep (planOf 0 1 1) (replicate 5 0) (0x11 ∷ [])) ≡ hostDelivery 65537 (replicate 5 0))
-    × (hostDeliveryOf (deliverStep (planOf 1 1 1) (replicate 5 0) (0x11 ∷ [])) ≡ hostDelivery 65538 (replicate 5 0))
-    × (hostDeliveryOf (deliverStep (planOf 1 1 1) (0x11 ∷ replicate 5 0) (0x11 ∷ [])) ≡ hostDelivery 65541 (0x11 ∷ replicate 5 0))
-unfolding deliverStep deliverJudged readMessage andThen refuseIf isPlan isCount mapLength mapLengths decode fieldsMessage isInRange isVote isValue
+    (hostDeliveryOf (deliverStep (planOf 1 1 1 0x0102) (0x39 ∷ 0 ∷ 0 ∷ 1 ∷ 1 ∷ 2 ∷ replicate 10 0) (0x30 ∷ 1 ∷ 1 ∷ 2 ∷ []))
+    ≡ hostDelivery 1 (0x39 ∷ 0 ∷ 0 ∷ 1 ∷ 1 ∷ 2 ∷ 0 ∷ 0 ∷ 0x30 ∷ 1 ∷ 1 ∷ 2 ∷ replicate 4 0))
+    × (hostDeliveryOf (deliverStep (planOf 1 1 1 0x0102) (0x30 ∷ 1 ∷ 1 ∷ 2 ∷ replicate 12 0) (0x30 ∷ 1 ∷ 1 ∷ 2 ∷ []))
+    ≡ hostDelivery 0 (0x30 ∷ 1 ∷ 1 ∷ 2 ∷ replicate 12 0))
+    × (hostDeliveryOf (deliverStep (planOf 1 1 1 0x0102) (0x30 ∷ 1 ∷ 1 ∷ 2 ∷ replicate 4 0) (0x29 ∷ 0 ∷ 1 ∷ 1 ∷ 2 ∷ []))
+    ≡ hostDelivery 65549 (0x30 ∷ 1 ∷ 1 ∷ 2 ∷ replicate 4 0))
+    × (hostDeliveryOf (deliverStep (planOf 1 1 1 0x0102) (replicate 8 0) (0x10 ∷ 1 ∷ [])) ≡ hostDelivery 65551 (replicate 8 0))
+    × (hostDeliveryOf (deliverStep (planOf 1 1 1 0x0102) (replicate 8 0) (0x30 ∷ 1 ∷ 1 ∷ [])) ≡ hostDelivery 65552 (replicate 8 0))
+    × (hostDeliveryOf (deliverStep (planOf 1 1 1 0x0102) (replicate 8 0) (0x30 ∷ 3 ∷ 1 ∷ 3 ∷ [])) ≡ hostDelivery 65553 (replicate 8 0))
+    × (hostDeliveryOf (deliverStep (planOf 1 1 1 0x0102) (replicate 8 0) (0x30 ∷ 1 ∷ 1 ∷ 3 ∷ [])) ≡ hostDelivery 65554 (replicate 8 0))
+    × (hostDeliveryOf (deliverStep (planOf 0 1 1 0x0102) (replicate 7 0) (0x31 ∷ [])) ≡ hostDelivery 65537 (replicate 7 0))
+    × (hostDeliveryOf (deliverStep (planOf 1 1 1 0x0102) (replicate 7 0) (0x31 ∷ [])) ≡ hostDelivery 65538 (replicate 7 0))
+    × (hostDeliveryOf (deliverStep (planOf 1 1 1 0x0102) (0x31 ∷ replicate 7 0) (0x31 ∷ [])) ≡ hostDelivery 65541 (0x31 ∷ replicate 7 0))
+unfolding deliverStep deliverJudged readMessage andThen refuseIf isPlan isCount mapLength mapLengths decode fieldsMessage hasOrder isInRange isVote isValue
     bytesOf bytesOf1b messageLength slotOf all isTableLength slotsUpTo slots isZero readSlot readTable allUnused isOrdered isTable usedMessages
     messages sameBytes storeAt sameMessage placeFrom placeIn
-deliver-examples = (refl, refl, refl, refl, refl, refl, refl, refl, refl)
+deliver-examples = (refl, refl, refl, refl, refl, refl, refl, refl, refl, refl)

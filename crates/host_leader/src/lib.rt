@@ -12,17 +12,19 @@ pub extern "C" fn paxos_commit_leader_step(
     rms: u8,
     acceptors: u8,
     leaders: u8,
+    order: u16,
     inbox: &mut [u8],
     network: &mut [u8],
     event: &[u8],
 ) -> u32
     ensures { λ r. ⌜ hostStep r (now (inbox .exit)) (now (network .exit)) ≡
-        hostStepOf (leaderStep (planOf rms acceptors leaders) (now (inbox .entry)) (now (network .entry)) (now (event .entry))) ⌝ }
+        hostStepOf (leaderStep (planOf rms acceptors leaders order) (now (inbox .entry)) (now (network .entry)) (now (event .entry))) ⌝ }
 {
     let plan = Plan {
         rms,
         acceptors,
         leaders,
+        order,
     };
     host_code::answer_code(leader_call::step(plan, inbox, network, event))
 }

@@ -1,5 +1,5 @@
 -- The proofs that belong to no one function.
 --     Reading    the reader's number
---     Writing    the six bytes of the writer's answer, one by one
+--     Writing    the eight bytes of the writer's answer, one by one
 pub mod Reading
 pub mod Writing

@@ -1,10 +1,11 @@
 -- The reader and the writer for other languages: what they are given and answer, as numbers.
 --     fieldsOf, messageOf         a message as its map and all five fields, and back
 --     readCode                    the reader's answer: byte 0 the refusal or 0, bytes 1 to 6 the map and the fields
---     hostWrite, writtenCode      the writer by map and fields; its answer: byte 0 the number, 1 the length, 2 to 7 the bytes
--- Their laws are in Code/Laws.antt. Assumes nothing.
+--     hostWrite, writtenCode      the writer by map and fields; its answer: the eight bytes, or byte 1 the refusal
+-- Their laws are in Code/Laws.antt, those of the writer's number in Code/Writing.antt. Assumes nothing.
 pub mod Laws
-use Prim.Native.Nat.{ℕ}
+pub mod Writing
+use Prim.Native.Nat.{ℕ, _*_}
 use mathlib.Core.Bool.{not, cond}
 use mathlib.Core.List.{List, [], _∷_}
 use lib.Dec.{eqb}
@@ -16,32 +17,33 @@ use Rattle.message.specs.declared.Message.the-variants.{Phase1a, Phase1b, Phase
 use Rattle.message.specs.declared.Written.{Written}
 use Rattle.message.specs.Outcome.{Outcome, accepted, refused, refuseIf}
 use Rattle.message.specs.Plan.{isPlan}
+use Rattle.message.specs.Form.{map1a, map1b, map1bVote, map2a, map2b, mapDecision}
 use Rattle.message.specs.Codec.{written, writeMessage}
 use Rattle.host_code.specs.Code.{packed}
 
--- a 1b's map and fields: 07 without a vote, 1F with one
+-- a 1b's map and fields
 abbrev pub fieldsOf1b : ℕ → ℕ → ℕ → Vote → List ℕ
-fieldsOf1b ins acc mbal None = 0x07 ∷ ins ∷ acc ∷ mbal ∷ 0 ∷ 0 ∷ []
-fieldsOf1b ins acc mbal (Cast bal val) = 0x1F ∷ ins ∷ acc ∷ mbal ∷ bal ∷ val ∷ []
+fieldsOf1b ins acc mbal None = map1b ∷ ins ∷ acc ∷ mbal ∷ 0 ∷ 0 ∷ []
+fieldsOf1b ins acc mbal (Cast bal val) = map1bVote ∷ ins ∷ acc ∷ mbal ∷ bal ∷ val ∷ []
 
 -- the map, then ins, acc, mbal, bal and val, each 0 where the message has no such field
 abbrev pub fieldsOf : Message → List ℕ
-fieldsOf (Phase1a ins bal) = 0x09 ∷ ins ∷ 0 ∷ 0 ∷ bal ∷ 0 ∷ []
+fieldsOf (Phase1a ins bal) = map1a ∷ ins ∷ 0 ∷ 0 ∷ bal ∷ 0 ∷ []
 fieldsOf (Phase1b ins acc mbal vote) = fieldsOf1b ins acc mbal vote
-fieldsOf (Phase2a ins bal val) = 0x19 ∷ ins ∷ 0 ∷ 0 ∷ bal ∷ val ∷ []
-fieldsOf (Phase2b ins acc bal val) = 0x1B ∷ ins ∷ acc ∷ 0 ∷ bal ∷ val ∷ []
-fieldsOf (Decision val) = 0x10 ∷ 0 ∷ 0 ∷ 0 ∷ 0 ∷ val ∷ []
+fieldsOf (Phase2a ins bal val) = map2a ∷ ins ∷ 0 ∷ 0 ∷ bal ∷ val ∷ []
+fieldsOf (Phase2b ins acc bal val) = map2b ∷ ins ∷ acc ∷ 0 ∷ bal ∷ val ∷ []
+fieldsOf (Decision val) = mapDecision ∷ 0 ∷ 0 ∷ 0 ∷ 0 ∷ val ∷ []
 
 -- the message with this map; fields that it does not have are not looked at. Document 01's writer is given a message, which has a kind:
 -- for another map there is none, and the number is the reader's for an unknown map
 unfoldable pub messageOf : ℕ → ℕ → ℕ → ℕ → ℕ → ℕ → Outcome Message
 messageOf map ins acc mbal bal val =
-    cond (eqb map 0x09) (accepted (Phase1a ins bal))
-    (cond (eqb map 0x07) (accepted (Phase1b ins acc mbal None))
-    (cond (eqb map 0x1F) (accepted (Phase1b ins acc mbal (Cast bal val)))
-    (cond (eqb map 0x19) (accepted (Phase2a ins bal val))
-    (cond (eqb map 0x1B) (accepted (Phase2b ins acc bal val))
-    (cond (eqb map 0x10) (accepted (Decision val))
+    cond (eqb map map1a) (accepted (Phase1a ins bal))
+    (cond (eqb map map1b) (accepted (Phase1b ins acc mbal None))
+    (cond (eqb map map1bVote) (accepted (Phase1b ins acc mbal (Cast bal val)))
+    (cond (eqb map map2a) (accepted (Phase2a ins bal val))
+    (cond (eqb map map2b) (accepted (Phase2b ins acc bal val))
+    (cond (eqb map mapDecision) (accepted (Decision val))
     (refused 15))))))
 
 -- byte 0 the refusal's number, and for a message 0; then its map and its fields
@@ -58,6 +60,6 @@ writeOutcome p (refused number) = written p (refused number)
 unfoldable pub hostWrite : Plan → ℕ → ℕ → ℕ → ℕ → ℕ → ℕ → Written
 hostWrite p map ins acc mbal bal val = writeOutcome p (refuseIf (not (isPlan p)) 1 (messageOf map ins acc mbal bal val))
 
--- byte 0 the number, byte 1 the length, then the six bytes
+-- the eight bytes, of which the first is a map; of a refusal byte 0 is 0 and byte 1 its number
 unfoldable pub writtenCode : Written → ℕ
-writtenCode w = packed (w .number ∷ w .len ∷ w .bytes)
+writtenCode w = cond (eqb (w .number) 0) (packed (w .bytes)) (256 * w .number)

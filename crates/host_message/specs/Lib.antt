@@ -1,5 +1,5 @@
 -- The reader and the writer for other languages.
 --     Code       what they are given and answer, as numbers
---     Theorems   when the reader's number is a message's, and that no number stands for two messages
+--     Theorems   when a number is a message's, and that none stands for two messages or for two answers of the writer
 pub mod Code
 pub mod Theorems

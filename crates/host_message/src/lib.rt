@@ -1,11 +1,11 @@
 // The reader and the writer for other languages: numbers and a byte slice in, one number out.
 //
-//     paxos_commit_read      the message that a slice is
-//     paxos_commit_write     the byte form of a message, given by its map and its fields
+//     paxos_commit_read       the message that a slice is
+//     paxos_commit_write      the byte form of a message, given by its map and its fields
+//     paxos_commit_length     how many bytes the form with this map has
 //
 // What the numbers mean stands in specs/Code.antt.
-ghost use Prim.Native.Nat.{_<_};
-ghost use mathlib.Core.List.{[], _∷_};
+ghost use mathlib.Core.List.{_∷_};
 ghost use mathlib.Core.Path.{_≡_};
 ghost use lib.ListN.{length, getD};
 ghost use Rattle.message.specs.Form.{mapLength, decode};
@@ -13,20 +13,28 @@ ghost use Rattle.message.specs.Codec.{readOutcome, readMessage};
 ghost use Rattle.host_code.specs.Code.{planOf, packed};
 ghost use Rattle.host_message.specs.Code.{fieldsOf, messageOf, readCode, hostWrite, writtenCode};
 use host_code::pack;
+use message::ACC;
+use message::BAL_1A;
+use message::BAL_1B;
+use message::BAL_2A;
+use message::BAL_2B;
+use message::INS;
+use message::MAP_1A;
+use message::MAP_1B;
+use message::MAP_1B_VOTE;
+use message::MAP_2A;
+use message::MAP_2B;
+use message::MAP_DECISION;
+use message::MBAL_1B;
 use message::Message;
 use message::Plan;
 use message::Read;
+use message::VAL_1B;
+use message::VAL_2A;
+use message::VAL_2B;
+use message::VAL_DECISION;
 use message::Vote;
 use message::Written;
-
-// The number of a 2b's bytes. Its four fields stand in pairs, and each pair is one load.
-fn pack_2b(ins: u8, acc: u8, bal: u8, val: u8) -> u64
-    ensures { λ r. ⌜ r ≡ packed (0 ∷ 0x1B ∷ ins ∷ acc ∷ 0 ∷ bal ∷ val ∷ 0 ∷ []) ⌝ }
-{
-    let first = ins as u64 + 256 * (acc as u64);
-    let second = bal as u64 + 256 * (val as u64);
-    0x1B00 + 65536 * first + 1099511627776 * second
-}
 
 // The number of a message's bytes: 0, the map, and ins, acc, mbal, bal and val, 0 for one that the message does not have. Each field is
 // read straight from its place.
@@ -35,34 +43,60 @@ fn message_code(bytes: &[u8]) -> u64
     ensures { λ r. ⌜ r ≡ packed (0 ∷ fieldsOf (decode (now (bytes .entry)))) ⌝ }
 {
     let map = message::byte_at(bytes, 0);
-    if map == 0x09 {
-        return pack(0, 0x09, bytes[1], 0, 0, bytes[2], 0, 0);
+    if map == MAP_1A {
+        return pack(0, MAP_1A, bytes[INS], 0, 0, bytes[BAL_1A], 0, 0);
     }
-    if map == 0x07 {
-        return pack(0, 0x07, bytes[1], bytes[2], bytes[3], 0, 0, 0);
+    if map == MAP_1B {
+        return pack(0, MAP_1B, bytes[INS], bytes[ACC], bytes[MBAL_1B], 0, 0, 0);
     }
-    if map == 0x1F {
-        return pack(0, 0x1F, bytes[1], bytes[2], bytes[3], bytes[4], bytes[5], 0);
+    if map == MAP_1B_VOTE {
+        return pack(
+            0,
+            MAP_1B_VOTE,
+            bytes[INS],
+            bytes[ACC],
+            bytes[MBAL_1B],
+            bytes[BAL_1B],
+            bytes[VAL_1B],
+            0,
+        );
     }
-    if map == 0x19 {
-        return pack(0, 0x19, bytes[1], 0, 0, bytes[2], bytes[3], 0);
+    if map == MAP_2A {
+        return pack(0, MAP_2A, bytes[INS], 0, 0, bytes[BAL_2A], bytes[VAL_2A], 0);
     }
-    if map == 0x1B {
-        return pack_2b(bytes[1], bytes[2], bytes[3], bytes[4]);
+    if map == MAP_2B {
+        return pack(
+            0,
+            MAP_2B,
+            bytes[INS],
+            bytes[ACC],
+            0,
+            bytes[BAL_2B],
+            bytes[VAL_2B],
+            0,
+        );
     }
-    pack(0, 0x10, 0, 0, 0, 0, message::byte_at(bytes, 1), 0)
+    let val = message::byte_at(bytes, VAL_DECISION);
+    pack(0, MAP_DECISION, 0, 0, 0, 0, val, 0)
 }
 
 // The reader. Byte 0 of the number, the lowest, is 0 where the slice is exactly one message; byte 1 is then its map, and bytes 2 to 6
-// are ins, acc, mbal, bal and val, 0 for one that it does not have. Else the number is the refusal: 1, 15, 16 or 17.
+// are ins, acc, mbal, bal and val, 0 for one that it does not have. Else the number is the refusal: 1, 15, 16, 17 or 18.
 #[no_mangle]
-pub extern "C" fn paxos_commit_read(rms: u8, acceptors: u8, leaders: u8, bytes: &[u8]) -> u64
-    ensures { λ r. ⌜ r ≡ readCode (readMessage (planOf rms acceptors leaders) (now (bytes .entry))) ⌝ }
+pub extern "C" fn paxos_commit_read(
+    rms: u8,
+    acceptors: u8,
+    leaders: u8,
+    order: u16,
+    bytes: &[u8],
+) -> u64
+    ensures { λ r. ⌜ r ≡ readCode (readMessage (planOf rms acceptors leaders order) (now (bytes .entry))) ⌝ }
 {
     let plan = Plan {
         rms,
         acceptors,
         leaders,
+        order,
     };
     let number = refusal::message_refusal(plan, bytes);
     if number != 0 {
@@ -75,10 +109,10 @@ pub extern "C" fn paxos_commit_read(rms: u8, acceptors: u8, leaders: u8, bytes: 
 fn message_of(map: u8, ins: u8, acc: u8, mbal: u8, bal: u8, val: u8) -> Read
     ensures { λ r. ⌜ readOutcome r ≡ messageOf map ins acc mbal bal val ⌝ }
 {
-    if map == 0x09 {
+    if map == MAP_1A {
         return Read::Message(Message::Phase1a { ins, bal });
     }
-    if map == 0x07 {
+    if map == MAP_1B {
         return Read::Message(Message::Phase1b {
             ins,
             acc,
@@ -86,7 +120,7 @@ fn message_of(map: u8, ins: u8, acc: u8, mbal: u8, bal: u8, val: u8) -> Read
             vote: Vote::None,
         });
     }
-    if map == 0x1F {
+    if map == MAP_1B_VOTE {
         return Read::Message(Message::Phase1b {
             ins,
             acc,
@@ -94,13 +128,13 @@ fn message_of(map: u8, ins: u8, acc: u8, mbal: u8, bal: u8, val: u8) -> Read
             vote: Vote::Cast { bal, val },
         });
     }
-    if map == 0x19 {
+    if map == MAP_2A {
         return Read::Message(Message::Phase2a { ins, bal, val });
     }
-    if map == 0x1B {
+    if map == MAP_2B {
         return Read::Message(Message::Phase2b { ins, acc, bal, val });
     }
-    if map == 0x10 {
+    if map == MAP_DECISION {
         return Read::Message(Message::Decision { val });
     }
     Read::Refused(15)
@@ -108,30 +142,25 @@ fn message_of(map: u8, ins: u8, acc: u8, mbal: u8, bal: u8, val: u8) -> Read
 
 // The number of a writer's answer.
 fn written_code(written: Written) -> u64
-    requires { ⌜ written .len < 256 ⌝ }
     ensures { λ r. ⌜ r ≡ writtenCode written ⌝ }
 {
+    if written.number != 0 {
+        return 256 * (written.number as u64);
+    }
     let b = written.bytes;
-    pack(
-        written.number,
-        written.len as u8,
-        b[0],
-        b[1],
-        b[2],
-        b[3],
-        b[4],
-        b[5],
-    )
+    pack(b[0], b[1], b[2], b[3], b[4], b[5], b[6], b[7])
 }
 
-// The writer, of the message with a map (09, 07, 1F, 19, 1B or 10) and fields, of which those that it does not have are not looked at.
-// Byte 0 of the number, the lowest, is 0, byte 1 the length, and bytes 2 to 7 are the message followed by zeros. Else the number is the
-// refusal: 1, 15 for another map, or 17. Document 01's writer has no 15, since it is given a message, which has a kind.
+// The writer, of the message with a map and fields, of which those that it does not have are not looked at. The number's bytes, the
+// lowest first, are the message followed by zeros; its first byte is the map, which is never 0 and stands for the length
+// (paxos_commit_length). Else byte 0 is 0 and byte 1 the refusal: 1, 15 for another map, or 17. Document 01's writer has no 15, since it
+// is given a message, which has a kind.
 #[no_mangle]
 pub extern "C" fn paxos_commit_write(
     rms: u8,
     acceptors: u8,
     leaders: u8,
+    order: u16,
     map: u8,
     ins: u8,
     acc: u8,
@@ -139,19 +168,47 @@ pub extern "C" fn paxos_commit_write(
     bal: u8,
     val: u8,
 ) -> u64
-    ensures { λ r. ⌜ r ≡ writtenCode (hostWrite (planOf rms acceptors leaders) map ins acc mbal bal val) ⌝ }
+    ensures { λ r. ⌜ r ≡ writtenCode (hostWrite (planOf rms acceptors leaders order) map ins acc mbal bal val) ⌝ }
 {
     let plan = Plan {
         rms,
         acceptors,
         leaders,
+        order,
     };
     if !message::is_plan(plan) {
-        return 1;
+        return 256;
     }
     let answer = message_of(map, ins, acc, mbal, bal, val);
     let Read::Message(m) = answer else {
-        return codec::read_refusal(answer) as u64;
+        return 256 * (codec::read_refusal(answer) as u64);
     };
     written_code(codec::write_message(plan, m))
+}
+
+// How many bytes the message has that begins with this map; 0 for what is no map, as the 0 that a refusal of the writer begins with. By
+// cases: the length of a given map is found when this is compiled.
+#[no_mangle]
+pub extern "C" fn paxos_commit_length(map: u8) -> u32
+    ensures { λ r. ⌜ r ≡ mapLength map ⌝ }
+{
+    if map == MAP_1A {
+        return message::map_length(MAP_1A) as u32;
+    }
+    if map == MAP_1B {
+        return message::map_length(MAP_1B) as u32;
+    }
+    if map == MAP_1B_VOTE {
+        return message::map_length(MAP_1B_VOTE) as u32;
+    }
+    if map == MAP_2A {
+        return message::map_length(MAP_2A) as u32;
+    }
+    if map == MAP_2B {
+        return message::map_length(MAP_2B) as u32;
+    }
+    if map == MAP_DECISION {
+        return message::map_length(MAP_DECISION) as u32;
+    }
+    0
 }

@@ -19,18 +19,20 @@ pub extern "C" fn paxos_commit_open(
     rms: u8,
     acceptors: u8,
     leaders: u8,
+    order: u16,
     states: &mut [u8],
     votes: &mut [u8],
     network: &mut [u8],
     inboxes: &mut [u8],
 ) -> u8
     ensures { λ r. ⌜ hostOpening r (tablesOf (now (states .exit)) (now (votes .exit)) (now (network .exit)) (now (inboxes .exit))) ≡
-        hostOpeningOf (recordOpen (planOf rms acceptors leaders) (tablesOf (now (states .entry)) (now (votes .entry)) (now (network .entry)) (now (inboxes .entry)))) ⌝ }
+        hostOpeningOf (recordOpen (planOf rms acceptors leaders order) (tablesOf (now (states .entry)) (now (votes .entry)) (now (network .entry)) (now (inboxes .entry)))) ⌝ }
 {
     let plan = Plan {
         rms,
         acceptors,
         leaders,
+        order,
     };
     change::judged_number(opening::open(plan, states, votes, network, inboxes))
 }
@@ -42,6 +44,7 @@ pub extern "C" fn paxos_commit_step(
     rms: u8,
     acceptors: u8,
     leaders: u8,
+    order: u16,
     states: &mut [u8],
     votes: &mut [u8],
     network: &mut [u8],
@@ -49,13 +52,14 @@ pub extern "C" fn paxos_commit_step(
     event: &[u8],
 ) -> u32
     ensures { λ r. ⌜ hostEvent r (tablesOf (now (states .exit)) (now (votes .exit)) (now (network .exit)) (now (inboxes .exit))) ≡
-        hostEventOf (recordStep (planOf rms acceptors leaders)
+        hostEventOf (recordStep (planOf rms acceptors leaders order)
         (tablesOf (now (states .entry)) (now (votes .entry)) (now (network .entry)) (now (inboxes .entry))) (now (event .entry))) ⌝ }
 {
     let plan = Plan {
         rms,
         acceptors,
         leaders,
+        order,
     };
     host_code::answer_code(record::step(plan, states, votes, network, inboxes, event))
 }
@@ -74,13 +78,20 @@ fn ending_number(ending: Ending) -> u32
 // How the order stands whose W is lent: 0 open, 1 committed (every weight is), 2 aborted (every weight is). Refused: 65536 and the number,
 // which is 1, 2 (W not n bytes) or 3 (a byte of W above 3).
 #[no_mangle]
-pub extern "C" fn paxos_commit_ending(rms: u8, acceptors: u8, leaders: u8, states: &[u8]) -> u32
-    ensures { λ r. ⌜ r ≡ endingCode (endingOutcome (planOf rms acceptors leaders) (now (states .entry))) ⌝ }
+pub extern "C" fn paxos_commit_ending(
+    rms: u8,
+    acceptors: u8,
+    leaders: u8,
+    order: u16,
+    states: &[u8],
+) -> u32
+    ensures { λ r. ⌜ r ≡ endingCode (endingOutcome (planOf rms acceptors leaders order) (now (states .entry))) ⌝ }
 {
     let plan = Plan {
         rms,
         acceptors,
         leaders,
+        order,
     };
     if !message::is_plan(plan) {
         return 65537;

@@ -12,17 +12,19 @@ pub extern "C" fn paxos_commit_rm_step(
     rms: u8,
     acceptors: u8,
     leaders: u8,
+    order: u16,
     states: &mut [u8],
     network: &mut [u8],
     event: &[u8],
 ) -> u32
     ensures { λ r. ⌜ hostStep r (now (states .exit)) (now (network .exit)) ≡
-        hostStepOf (rmStep (planOf rms acceptors leaders) (now (states .entry)) (now (network .entry)) (now (event .entry))) ⌝ }
+        hostStepOf (rmStep (planOf rms acceptors leaders order) (now (states .entry)) (now (network .entry)) (now (event .entry))) ⌝ }
 {
     let plan = Plan {
         rms,
         acceptors,
         leaders,
+        order,
     };
     host_code::answer_code(rm_call::step(plan, states, network, event))
 }

@@ -1,120 +1,108 @@
 -- Blocks of slots that are passed at once for Phase2a.
---     lower-first, lower-second, mismatch-candidate     the code's numbers are zero exactly where a slot is a candidate
---     starts-next                   one slot of a block further
---     block-start, -next, -end      before the first byte of a block, one byte further, and none left
---     gathers-skip                  slots of which none is a candidate add nothing to what was gathered
+--     word-1b, word-2a                    the word of a 1b, and of a 2a, of the instance and ballot is the one sought
+--     none-start, none-next, none-fewer   no word so far is sought: before the first, one word further, of fewer words
+--     used-met                            all slots so far are in use, one slot further
+--     gathers-block                       a block that is passed adds nothing to what was gathered
 -- Assumes nothing.
-use Prim.Native.Nat.{ℕ, zero, suc, _+_, _-_, _*_, _/_, _≤_, _<_}
-use mathlib.Core.Bool.{Bool, true, false, _&&_, _||_, false≢true}
+use Prim.Native.Nat.{ℕ, zero, suc, _+_, _*_, _%_, _≤_, _<_}
+use mathlib.Core.Bool.{_&&_, false}
 use mathlib.Core.List.{List}
-use mathlib.Core.Path.{_≡_, refl, sym, _∙_, ap, ap₂, subst}
+use mathlib.Core.Path.{_≡_, _∙_, subst}
 use native.Mathlib.Decide.{ℕ-discrete}
-use native.Mathlib.Nat.{add-zero}
-use native.Mathlib.Numerals.{add-one}
+use native.Mathlib.Nat.{add-zero, not-suc-le-zero, le-trans}
 use native.Mathlib.Omega.{arith}
-use lib.Bits.{bitOr, bitXor, or-self}
-use lib.Dec.{eqb}
-use lib.ListN.{length, getD, set}
-use lib.Seq.{getD-set-same, getD-set-other}
-use borrow.Author.Tests.{ne-eqb, eqb-true, eqb-false}
+use lib.Bits.{bitAnd, bitOr, and-block, and-mask, and-zero-l, and-zero-r}
+use lib.Dec.{eqb, lit<}
+use lib.ListN.{getD}
+use borrow.Author.Tests.{eq-eqb, ne-eqb}
 use Rattle.message.specs.declared.Message.{Message}
-use Rattle.message.specs.Form.{fieldsMessage}
+use Rattle.message.specs.Form.{map2a}
 use Rattle.slots.specs.Table.{slotSize}
-use Rattle.slots.proofs.Zeros.{or-zero, differ-zero}
+use Rattle.slots.specs.Table.Words.{wordSize, Word, WordFrom, AllUsed}
+use Rattle.slots.specs.Table.Words.Laws.{below-next, used-next}
+use Rattle.slots.proofs.Zeros.{or-none}
 use Rattle.inbox.specs.declared.Gathered.{Gathered}
-use Rattle.inbox.specs.Inbox.{forSome}
 use Rattle.inbox.specs.Inbox.Slots.{messageAt, ahead, ahead-used}
 use Rattle.inbox.specs.Inbox.Reports.{reportStep, Gathers, gathers-next}
-use Rattle.inbox.specs.Inbox.Candidates.{isCandidate, candidateAt, candidateStart, Skippable}
-use Rattle.inbox.proofs.Reporting.{skip-instance, skip-2a, skip-1b}
+use Rattle.inbox.specs.Inbox.Blocks.{blockSlots, Unsought, NoneSought, Passed}
+use Rattle.inbox.proofs.Reporting.{skip-other}
 
-pub lower-first : (a b : ℕ) → b < a → eqb b 0 ≡ (eqb a 0 || eqb b 0)
-lower-first a b h = rw (ne-eqb a 0 (λ e. omega arith))
+-- two bytes of which the higher is kept
+high-byte : (high low : ℕ) → high < 256 → low < 256 → bitAnd (high * 256 + low) 0xFF00 ≡ high * 256
+high-byte high low h l =
+    and-block 8 high 0xFF low 0 l (lit< tt) ∙ rw (and-mask high 8, and-zero-r low) (omega arith)
 
-pub lower-second : (a b : ℕ) → a ≤ b → eqb a 0 ≡ (eqb a 0 || eqb b 0)
-lower-second a b h = go (eqb a 0) refl
-  where
-    go : (t : Bool) → eqb a 0 ≡ t → t ≡ (t || eqb b 0)
-    go true e = refl
-    go false e = sym (ne-eqb b 0 (λ k. eqb-false a 0 e (omega arith)))
+-- four bytes of which the second and the fourth are kept
+module _ {b0 b1 b2 b3 w : ℕ} (x : Word b0 b1 b2 b3 w) where
+  kept : bitAnd w 0xFF00FF00 ≡ b1 * 0x100 + b3 * 0x1000000
+  kept =
+      let low : b1 * 256 + b0 < 65536 = omega (arith, x) in
+      let same : (b3 * 256 + b2) * 65536 + (b1 * 256 + b0) ≡ w = omega (arith, x .sum) in
+      rw same at (and-block 16 (b3 * 256 + b2) 0xFF00 (b1 * 256 + b0) 0xFF00 low (lit< tt))
+      ∙ rw (high-byte b3 b2 (omega (arith, x)) (omega (arith, x)), high-byte b1 b0 (omega (arith, x)) (omega (arith, x))) (omega arith)
 
-xor-zero : (a b : ℕ) → eqb (bitXor a b) 0 ≡ eqb a b
-xor-zero a b = ap (λ (x : ℕ). eqb x 0) (sym (or-self (bitXor a b))) ∙ differ-zero a b a b ∙ twice (eqb a b)
-  where
-    twice : (t : Bool) → (t && t) ≡ t
-    twice true = refl
-    twice false = refl
+  pub word-1b : {i b v : ℕ} → Word 0 i 0 b v → b1 ≡ i → b3 ≡ b → bitAnd w 0xFF00FF00 ≡ v
+  word-1b y e l = kept ∙ omega (arith, y .sum, e, l)
 
--- `m` is the lower of bytes 2 and 3 against the ballot
-pub mismatch-candidate : (i b b0 b1 b2 b3 m r : ℕ) → eqb m 0 ≡ (eqb (bitXor b2 b) 0 || eqb (bitXor b3 b) 0)
-    → eqb r 0 ≡ (eqb b0 0 || eqb (bitOr (bitXor b1 i) m) 0) → eqb r 0 ≡ isCandidate i b b0 b1 b2 b3
-unfolding isCandidate
-mismatch-candidate i b b0 b1 b2 b3 m r e f =
-    f ∙ ap (λ (t : Bool). eqb b0 0 || t)
-    (or-zero (bitXor b1 i) m ∙ ap₂ _&&_ (xor-zero b1 i) (e ∙ ap₂ _||_ (xor-zero b2 b) (xor-zero b3 b)))
+  pub word-2a : {i b v : ℕ} → Word map2a i b 0 v → b0 ≡ map2a → b1 ≡ i → b2 ≡ b → w % 0x1000000 ≡ v
+  word-2a y k e l = omega (arith, x .sum, x .digit3, y .sum, k, e, l)
 
-pub starts-next : (starts : List ℕ) (place : ℕ) → length starts ≡ 96 → place < 16
-    → ((k : ℕ) → k < place → getD starts (k * slotSize) 0 ≡ 0)
-    → (k : ℕ) → k < place + 1 → getD (set starts (place * slotSize) 0) (k * slotSize) 0 ≡ 0
-starts-next starts place long h before k l =
-    elim (ℕ-discrete k place) [
-      | yes e ↦ rw e (getD-set-same starts (place * slotSize) 0 0 (rw long (omega arith)))
-      | no n ↦ getD-set-other starts (place * slotSize) (k * slotSize) 0 0 (λ q. n (omega arith)) ∙ before k (omega (arith, n))
+module _ (i b : ℕ) (t : List ℕ) (at : ℕ) where
+  pub none-start : NoneSought i b t at 0
+  none-start = record { each = λ k l. absurd (not-suc-le-zero l) }
+
+  -- `w` is the word at k; `v` and `u` are the words sought
+  pub none-next : (k w v u hit s : ℕ) → Word 0 i 0 b v → Word map2a i b 0 u → WordFrom t (at + k * wordSize) w
+      → (s ≡ 0 → (bitAnd w 0xFF00FF00 ≡ v → ⊥) × (w % 0x1000000 ≡ u → ⊥))
+      → (hit ≡ 0 → NoneSought i b t at k) → bitOr hit s ≡ 0 → NoneSought i b t at (k + 1)
+  none-next k w v u hit s of-1b of-2a reads other before z =
+      let zeros = or-none hit s z in
+      let last : Unsought i b t (at + k * wordSize) =
+      record {
+        no-1b = λ e l. other (zeros .1) .0 (word-1b reads of-1b e l);
+        no-2a = λ m e l. other (zeros .1) .1 (word-2a reads of-2a m e l);
+      } in
+      record { each = below-next (λ (j : ℕ). Unsought i b t (at + j * wordSize)) k (before (zeros .0) .each) last }
+
+  pub none-fewer : (k n : ℕ) → n ≤ k → NoneSought i b t at k → NoneSought i b t at n
+  none-fewer k n h x = record { each = λ j l. x .each j (le-trans l h) }
+
+pub used-met : (t : List ℕ) (at k bits : ℕ) → ((bits ≡ 0 → ⊥) → AllUsed t at k)
+    → (bitAnd bits (getD t (at + k * slotSize) 0) ≡ 0 → ⊥) → AllUsed t at (k + 1)
+used-met t at k bits before some =
+    used-next t at k (λ z. some (rw z (and-zero-r bits))) (before (λ z. some (rw z (and-zero-l (getD t (at + k * slotSize) 0)))))
+
+not-both : (x i y b : ℕ) → (x ≡ i → y ≡ b → ⊥) → (eqb x i && eqb y b) ≡ false
+not-both x i y b n =
+    elim (ℕ-discrete x i) [
+      | yes e ↦ rw (eq-eqb x i e, ne-eqb y b (n e))
+      | no k ↦ rw (ne-eqb x i k)
     ]
 
-pub block-start : (test : ℕ → Bool) → eqb 255 0 ≡ forSome 0 test
-unfolding forSome
-block-start test = refl
+-- a slot that is not sought
+skip-slot : (i b : ℕ) (t : List ℕ) (at : ℕ) → Unsought i b t at → (g : Gathered) → g ≡ reportStep i b g (messageAt t at)
+skip-slot i b t at x g =
+    let of1b = not-both (getD t (at + 1) 0) i (getD t (at + 3) 0) b (x .no-1b) in
+    skip-other i b g t at (λ is. not-both (getD t (at + 1) 0) i (getD t (at + 2) 0) b (x .no-2a is)) (λ is. of1b) (λ is. of1b)
 
-pub block-end : (test : ℕ → Bool) (j least : ℕ) → eqb least 0 ≡ forSome j test → j ≤ 96 → 96 ≤ j → eqb least 0 ≡ forSome 96 test
-block-end test j least inv h l = let e : j ≡ 96 = omega arith in rw e at inv
+module _ (i b : ℕ) (ms : List Message) (t : List ℕ) (g : Gathered) (place : ℕ) (inv : Gathers i b ms g place (ahead t place))
+    (p : Passed i b t place) where
+  used : (j : ℕ) → j < blockSlots → getD t ((place + j) * slotSize) 0 ≡ 0 → ⊥
+  used j l = let byte : place * slotSize + j * slotSize ≡ (place + j) * slotSize = omega arith in rw byte at (p .all .used j l)
 
-pub block-next : (i b : ℕ) (t : List ℕ) (at : ℕ) (starts : List ℕ) (j least : ℕ)
-    → eqb least 0 ≡ forSome j (candidateStart i b t at starts)
-    → (next : ℕ) → eqb next 0 ≡ candidateAt i b t (at + j)
-    → (r : ℕ) → eqb r 0 ≡ (eqb (bitOr next (getD starts j 0)) 0 || eqb least 0)
-    → eqb r 0 ≡ forSome (j + 1) (candidateStart i b t at starts)
-unfolding forSome candidateStart
-block-next i b t at starts j least inv next e r f =
-    f ∙ ap₂ _||_ (or-zero next (getD starts j 0) ∙ ap (λ (s : Bool). s && eqb (getD starts j 0) 0) e) inv
-    ∙ sym (ap (λ (n : ℕ). forSome n (candidateStart i b t at starts)) (add-one j))
+  unsought : (j : ℕ) → j < blockSlots → Unsought i b t ((place + j) * slotSize)
+  unsought j l =
+      let byte : place * slotSize + 2 * j * wordSize ≡ (place + j) * slotSize = omega arith in
+      rw byte at (p .none .each (2 * j) (omega arith))
 
-neither : (x y : Bool) → (x || y) ≡ false → (x ≡ false) × (y ≡ false)
-neither true y e = (e, absurd (false≢true (sym e)))
-neither false y e = (refl, e)
+  gathers-slots : (j : ℕ) → j ≤ blockSlots → Gathers i b ms g (place + j) (ahead t (place + j))
+  gathers-slots zero l = rw (add-zero place) inv
+  gathers-slots (suc j) l =
+      let next : place + j + 1 ≡ place + suc j = omega arith in
+      subst (λ (k : ℕ). Gathers i b ms g k (ahead t k)) next
+      (gathers-next i b ms g (place + j) (ahead t (place + j)) (gathers-slots j (omega arith))
+      (messageAt t ((place + j) * slotSize)) (ahead t (place + j + 1)) (ahead-used t (place + j) (omega (arith, p .room)) (used j l))
+      g (skip-slot i b t _ (unsought j l) g))
 
--- a slot that is no candidate
-module _ (i b : ℕ) (g : Gathered) (map b1 b2 b3 b4 b5 : ℕ) (h : isCandidate i b map b1 b2 b3 ≡ false) where
-  not-unused : map ≡ 0 → ⊥
-  unfolding isCandidate
-  not-unused = eqb-false map 0 (neither _ _ h .0)
-
-  skip-other : g ≡ reportStep i b g (fieldsMessage map b1 b2 b3 b4 b5)
-  unfolding isCandidate
-  skip-other = go (eqb b1 i) refl (neither (eqb map 0) _ h .1)
-    where
-      other : (eqb b2 b || eqb b3 b) ≡ false → b1 ≡ i → (t : Bool) → eqb map 0x19 ≡ t → g ≡ reportStep i b g (fieldsMessage map b1 b2 b3 b4 b5)
-      other f e true k = skip-2a i b g map b1 b2 b3 b4 b5 e (eqb-true map 0x19 k) (eqb-false b2 b (neither _ _ f .0))
-      other f e false k = skip-1b i b g map b1 b2 b3 b4 b5 e (eqb-false map 0x19 k) (eqb-false b3 b (neither (eqb b2 b) _ f .1))
-
-      go : (t : Bool) → eqb b1 i ≡ t → (t && (eqb b2 b || eqb b3 b)) ≡ false → g ≡ reportStep i b g (fieldsMessage map b1 b2 b3 b4 b5)
-      go true e f = other f (eqb-true b1 i e) (eqb map 0x19) refl
-      go false e f = skip-instance i b g map b1 b2 b3 b4 b5 (eqb-false b1 i e)
-
-module _ (i b : ℕ) (ms : List Message) (t : List ℕ) (g : Gathered) (k : ℕ) (inv : Gathers i b ms g k (ahead t k)) where
-  skip-run : (n : ℕ) → k + n ≤ length t / slotSize → ((m : ℕ) → m < n → candidateAt i b t ((k + m) * slotSize) ≡ false)
-      → Gathers i b ms g (k + n) (ahead t (k + n))
-  unfolding messageAt
-  skip-run zero l none = rw (add-zero k) inv
-  skip-run (suc n) l none =
-      let next : k + n + 1 ≡ k + suc n = omega arith in
-      let h = none n (omega arith) in
-      subst (λ (x : ℕ). Gathers i b ms g x (ahead t x)) next
-      (gathers-next i b ms g (k + n) (ahead t (k + n)) (skip-run n (omega arith) (λ m s. none m (omega arith)))
-      (messageAt t ((k + n) * slotSize)) (ahead t (k + n + 1)) (ahead-used t (k + n) (omega arith) (not-unused i b g _ _ _ _ 0 0 h))
-      g (skip-other i b g _ _ _ _ _ _ h))
-
-  pub gathers-skip : (to : ℕ) → Skippable i b t k to → Gathers i b ms g to (ahead t to)
-  gathers-skip to q =
-      let e : k + (to - k) ≡ to = omega (arith, q .onward) in
-      rw e at (skip-run (to - k) (rw e (q .within)) (λ m s. q .none (k + m) (omega arith) (omega (arith, q .onward))))
+  pub gathers-block : Gathers i b ms g (place + blockSlots) (ahead t (place + blockSlots))
+  gathers-block = gathers-slots blockSlots (omega arith)

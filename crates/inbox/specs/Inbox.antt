@@ -11,7 +11,7 @@ pub mod Reports
 pub mod Votes
 pub mod Bits
 pub mod Quantifiers
-pub mod Candidates
+pub mod Blocks
 use Prim.Native.Nat.{ℕ, zero, suc}
 use mathlib.Core.Bool.{Bool, true, false, _&&_, _||_, cond}
 use mathlib.Core.List.{List, [], _∷_}

@@ -4,21 +4,31 @@
 //
 // Decided, which it reads there too, is the crate `decided`. What both mean stands in specs/. No public function has a `requires`, and none
 // looks past the inbox.
-ghost use mathlib.Core.Bool.{_||_};
+ghost use mathlib.Core.Bool.{true};
 ghost use mathlib.Core.List.{[]};
 ghost use mathlib.Core.Path.{_≡_};
-ghost use Prim.Native.Nat.{_+_, _/_, _≤_};
-ghost use lib.Dec.{eqb};
+ghost use Prim.Native.Nat.{_+_, _/_, _%_, _≤_};
+ghost use lib.Bits.{bitAnd};
 ghost use lib.ListN.{length};
 ghost use Rattle.slots.specs.Table.{slotSize};
 ghost use Rattle.slots.specs.Table.Scan.{peekTable};
 ghost use Rattle.slots.specs.View.Bytes.{leadingMessages};
-ghost use Rattle.inbox.specs.Inbox.{higher, forSome, reportsOf};
+ghost use Rattle.slots.specs.Table.Words.{wordSize, WordFrom, AllUsed};
+ghost use Rattle.inbox.specs.Inbox.{higher, reportsOf};
 ghost use Rattle.inbox.specs.Inbox.Slots.{messageAt};
 ghost use Rattle.inbox.specs.Inbox.Reports.{reportStep, Gathers};
-ghost use Rattle.inbox.specs.Inbox.Candidates.{isCandidate, candidateStart, Starts, Skippable};
+ghost use Rattle.inbox.specs.Inbox.Blocks.{blockSlots, blockSize, blockWords, NoneSought, Passed};
+use message::ACC;
+use message::BAL_1B;
+use message::BAL_2A;
+use message::INS;
+use message::MAP_1B;
+use message::MAP_1B_VOTE;
+use message::MAP_2A;
+use message::MBAL_1B;
 use message::Plan;
 use message::SLOT_SIZE;
+use message::VAL_1B;
 use message::Vote;
 
 // What Phase2a asks of the inbox: whether a 2a of the instance and ballot is there, whether the acceptors with a 1b are a majority, the
@@ -38,7 +48,7 @@ struct Gathered {
 }
 
 // What all messages have shown of it, and how many they are.
-struct Passed {
+struct Counted {
     seen: Gathered,
     count: usize,
 }
@@ -63,15 +73,15 @@ fn report_step(inbox: &[u8], at: usize, instance: u8, ballot: u8, seen: Gathered
     requires { ⌜ at + slotSize ≤ length (now inbox) ⌝ }
     ensures { λ r. ⌜ r ≡ reportStep instance ballot seen (messageAt (now (inbox .entry)) at) ⌝ }
 {
-    if inbox[at + 1] != instance {
+    if inbox[at + INS] != instance {
         return seen;
     }
     let map = inbox[at];
     let proposed = seen.proposed;
     let mask = seen.mask;
     let vote = seen.vote;
-    if map == 0x19 {
-        if inbox[at + 2] != ballot {
+    if map == MAP_2A {
+        if inbox[at + BAL_2A] != ballot {
             return seen;
         }
         return Gathered {
@@ -80,146 +90,147 @@ fn report_step(inbox: &[u8], at: usize, instance: u8, ballot: u8, seen: Gathered
             vote,
         };
     }
-    if inbox[at + 3] != ballot {
+    if inbox[at + MBAL_1B] != ballot {
         return seen;
     }
-    if map == 0x07 {
+    if map == MAP_1B {
         return Gathered {
             proposed,
-            mask: quorum::insert_bit(mask, inbox[at + 2]),
+            mask: quorum::insert_bit(mask, inbox[at + ACC]),
             vote,
         };
     }
-    if map == 0x1F {
+    if map == MAP_1B_VOTE {
         return Gathered {
             proposed,
-            mask: quorum::insert_bit(mask, inbox[at + 2]),
-            vote: higher_vote(vote, inbox[at + 4], inbox[at + 5]),
+            mask: quorum::insert_bit(mask, inbox[at + ACC]),
+            vote: higher_vote(vote, inbox[at + BAL_1B], inbox[at + VAL_1B]),
         };
     }
     seen
 }
 
-// So many slots, and so many bytes, are tested together without a branch.
-const BLOCK: usize = 16;
+// The bytes of a word.
+const WORD_SIZE: usize = 4;
 
-const BLOCK_SIZE: usize = 96;
+// So many slots are looked at together without a branch: a block. Its bytes and its words.
+const BLOCK_SLOTS: usize = 8;
 
-fn lower(a: u8, b: u8) -> u8
-    ensures { λ r. ⌜ eqb r 0 ≡ (eqb a 0 || eqb b 0) ⌝ }
+const BLOCK_SIZE: usize = BLOCK_SLOTS * SLOT_SIZE;
+
+const BLOCK_WORDS: usize = BLOCK_SIZE / WORD_SIZE;
+
+// Of the first word of a 1b the bytes of its instance and its ballot; the first word without its last byte is what it leaves when divided
+// by the other.
+const INS_AND_MBAL: u32 = 0xFF00_FF00;
+
+const THREE_BYTES: u32 = 0x100_0000;
+
+// Four bytes from an index on as one number.
+fn word_from(bytes: &[u8], at: usize) -> u32
+    requires { ⌜ at + wordSize ≤ length (now bytes) ⌝ }
+    ensures { λ r. ⌜ WordFrom (now (bytes .entry)) at r ⌝ }
 {
-    if b < a {
-        return b;
+    slots::word(bytes[at], bytes[at + 1], bytes[at + 2], bytes[at + 3])
+}
+
+// Not zero where a slot with this first word may be a 1b, or is a 2a, of which these are the words.
+fn sought(word: u32, of_1b: u32, of_2a: u32) -> u32
+    ensures { λ r. ⌜ (r ≡ 0 → (bitAnd word 0xFF00FF00 ≡ «of_1b» → ⊥) × (word % 0x1000000 ≡ «of_2a» → ⊥)) ⌝ }
+{
+    if word & INS_AND_MBAL == of_1b {
+        return 1;
     }
-    a
-}
-
-// Zero exactly where a slot with these first bytes is a candidate: it is unused, or may be a 1b or a 2a of the instance and ballot.
-fn mismatch(b0: u8, b1: u8, b2: u8, b3: u8, instance: u8, ballot: u8) -> u8
-    ensures { λ r. ⌜ eqb r 0 ≡ isCandidate instance ballot b0 b1 b2 b3 ⌝ }
-{
-    lower(b0, (b1 ^ instance) | lower(b2 ^ ballot, b3 ^ ballot))
-}
-
-// For each byte of a block: zero where a slot begins.
-fn slot_starts() -> [u8; BLOCK_SIZE]
-    ensures { λ r. ⌜ Starts r ⌝ }
-{
-    let mut starts = [255u8; BLOCK_SIZE];
-    let mut place = 0;
-    while place < BLOCK {
-        starts[place * SLOT_SIZE] = 0;
-        place += 1;
+    if word % THREE_BYTES == of_2a {
+        return 1;
     }
-    starts
+    0
 }
 
-// Zero exactly where a slot of the block is a candidate.
-fn least_mismatch(
-    inbox: &[u8],
-    at: usize,
-    starts: &[u8; BLOCK_SIZE],
-    instance: u8,
-    ballot: u8,
-) -> u8
-    requires { ⌜ at + 99 ≤ length (now inbox) ⌝ }
-    ensures { λ r. ⌜ eqb r 0 ≡ forSome 96 (candidateStart instance ballot (now (inbox .entry)) at (now (starts .entry))) ⌝ }
+// Zero only where no slot of a block may be a 1b or is a 2a of the instance and ballot. Every word is looked at, the second of a slot too,
+// since that is done for many words in one step.
+fn hits(inbox: &[u8], at: usize, instance: u8, ballot: u8) -> u32
+    requires { ⌜ at + blockSize ≤ length (now inbox) ⌝ }
+    ensures { λ r. ⌜ (r ≡ 0 → NoneSought instance ballot (now (inbox .entry)) at blockWords) ⌝ }
 {
-    let mut least = 255;
+    let of_1b = slots::word(0, instance, 0, ballot);
+    let of_2a = slots::word(MAP_2A, instance, ballot, 0);
+    let mut hit: u32 = 0;
     let mut i = 0;
-    while i < BLOCK_SIZE {
-        let k = at + i;
-        let next = mismatch(
-            inbox[k],
-            inbox[k + 1],
-            inbox[k + 2],
-            inbox[k + 3],
-            instance,
-            ballot,
-        );
-        least = lower(next | starts[i], least);
+    while i < BLOCK_WORDS {
+        let next = sought(word_from(inbox, at + i * WORD_SIZE), of_1b, of_2a);
+        hit = hit | next;
         i += 1;
     }
-    least
+    hit
 }
 
-// The place after the block where it is whole and has no candidate; else the same place.
-fn skip_block(
-    inbox: &[u8],
-    place: usize,
-    starts: &[u8; BLOCK_SIZE],
-    instance: u8,
-    ballot: u8,
-) -> usize
-    requires { ⌜ (place ≤ length (now inbox) / slotSize) × Starts (now starts) ⌝ }
-    ensures { λ r. ⌜ Skippable instance ballot (now (inbox .entry)) place r ⌝ }
+// Zero where a slot of a block is unused. Where all hold messages it is not: all maps share the order number's bit.
+fn shared(inbox: &[u8], at: usize) -> u8
+    requires { ⌜ at + blockSize ≤ length (now inbox) ⌝ }
+    ensures { λ r. ⌜ ((r ≡ 0 → ⊥) → AllUsed (now (inbox .entry)) at blockSlots) ⌝ }
+{
+    let mut bits = 255;
+    let mut i = 0;
+    while i < BLOCK_SLOTS {
+        bits = bits & inbox[at + i * SLOT_SIZE];
+        i += 1;
+    }
+    bits
+}
+
+// Whether a block begins at a place and can be passed: true only where all its slots are in use, and none is a 1b or a 2a of the instance
+// and ballot.
+fn is_passed(inbox: &[u8], place: usize, instance: u8, ballot: u8) -> bool
+    requires { ⌜ place ≤ length (now inbox) / slotSize ⌝ }
+    ensures { λ r. ⌜ (r ≡ true → Passed instance ballot (now (inbox .entry)) place) ⌝ }
 {
     let at = place * SLOT_SIZE;
-    if inbox.len() - at < BLOCK_SIZE + 3 {
-        return place;
+    if place % BLOCK_SLOTS != 0 {
+        return false;
     }
-    if least_mismatch(inbox, at, starts, instance, ballot) == 0 {
-        return place;
+    if inbox.len() - at < BLOCK_SIZE {
+        return false;
     }
-    place + BLOCK
+    if shared(inbox, at) == 0 {
+        return false;
+    }
+    hits(inbox, at, instance, ballot) == 0
 }
 
-// The first block is passed slot by slot, and each later one only where it has a candidate; `due` is where the next block is tested.
-fn gather(inbox: &[u8], instance: u8, ballot: u8) -> Passed
+// Past whole blocks where that can be, else slot by slot.
+fn gather(inbox: &[u8], instance: u8, ballot: u8) -> Counted
     ensures { λ r. ⌜ Gathers instance ballot (leadingMessages (peekTable (now (inbox .entry)))) (r .seen) (r .count) [] ⌝ }
 {
     let count = inbox.len() / SLOT_SIZE;
-    let starts = slot_starts();
     let mut seen = Gathered {
         proposed: false,
         mask: 0,
         vote: Vote::None,
     };
-    let mut due = BLOCK;
     let mut place = 0;
     while place < count {
+        if is_passed(inbox, place, instance, ballot) {
+            place += BLOCK_SLOTS;
+            continue;
+        }
         let at = place * SLOT_SIZE;
         if inbox[at] == 0 {
-            return Passed { seen, count: place };
-        }
-        if due <= place {
-            due = place + BLOCK;
-            place = skip_block(inbox, place, &starts, instance, ballot);
-            continue;
+            return Counted { seen, count: place };
         }
         seen = report_step(inbox, at, instance, ballot, seen);
         place += 1;
     }
-    Passed { seen, count: place }
+    Counted { seen, count: place }
 }
 
 // What Phase2a asks of the inbox, in one pass.
 pub fn gather_reports(plan: Plan, inbox: &[u8], instance: u8, ballot: u8) -> Reports
     ensures { λ r. ⌜ r ≡ reportsOf plan (leadingMessages (peekTable (now (inbox .entry)))) instance ballot ⌝ }
 {
-    let passed = gather(inbox, instance, ballot);
-    let seen = passed.seen;
-    let count = passed.count;
+    let counted = gather(inbox, instance, ballot);
+    let seen = counted.seen;
+    let count = counted.count;
     let vote = seen.vote;
     if !message::is_plan(plan) {
         return Reports {

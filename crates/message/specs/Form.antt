@@ -1,12 +1,16 @@
--- Messages and their one byte form (document 01, "Message bytes").
+-- Messages and their one byte form (document 01, "Message bytes"; document 02, Paper 1: the order number, slots of 8 bytes).
 --     isValue, isVote, isInRange    the ranges of a message's fields; out of range is refusal 17
---     bytesOf, messageLength        the bytes of a message: a bit map, then its fields
+--     map1a .. mapDecision          the six bit maps
+--     orderBytes                    the order number as two bytes
+--     bytesOf, messageLength        the bytes of a message: its map, its fields, the order number
 --     slotSize, slotOf              a slot's size, and a message followed by zeros
 --     mapLengths, mapLength         the length that a bit map stands for, 0 for an unknown one
 --     fieldsMessage, decode         the message that a known map and the bytes after it make
--- Their laws are in Form/Laws.antt. Assumes nothing.
+--     hasOrder                      the plan's order number stands where a message of this length has it
+-- Their laws are in Form/Laws.antt and, map by map, in Form/Maps.antt. Assumes nothing.
 pub mod Laws
-use Prim.Native.Nat.{ℕ, _-_}
+pub mod Maps
+use Prim.Native.Nat.{ℕ, _-_, _/_, _%_}
 use mathlib.Core.Bool.{Bool, true, _&&_, cond}
 use mathlib.Core.List.{List, [], _∷_, _++_}
 use lib.Dec.{ltb, leb, eqb}
@@ -34,18 +38,42 @@ isInRange p (Phase2a ins bal val) = ltb ins (p .rms) && isValue val
 isInRange p (Phase2b ins acc bal val) = ltb ins (p .rms) && ltb acc (p .acceptors) && isValue val
 isInRange p (Decision val) = isValue val
 
--- a 1b's bytes: map 07 without a vote, 1F with one
-unfoldable pub bytesOf1b : ℕ → ℕ → ℕ → Vote → List ℕ
-bytesOf1b ins acc mbal None = 0x07 ∷ ins ∷ acc ∷ mbal ∷ []
-bytesOf1b ins acc mbal (Cast bal val) = 0x1F ∷ ins ∷ acc ∷ mbal ∷ bal ∷ val ∷ []
+-- the bit maps: bits 0 to 4 stand for ins, acc, mbal, bal and val; bit 5 always stands, for the order number
+abbrev pub map1a : ℕ
+map1a = 0x29
 
--- the bytes of a message under a plan: the map, whose bits 0 to 4 stand for ins, acc, mbal, bal and val, then a byte for each bit
+-- a 1b without a vote, and with one
+abbrev pub map1b : ℕ
+map1b = 0x27
+
+abbrev pub map1bVote : ℕ
+map1bVote = 0x3F
+
+abbrev pub map2a : ℕ
+map2a = 0x39
+
+abbrev pub map2b : ℕ
+map2b = 0x3B
+
+abbrev pub mapDecision : ℕ
+mapDecision = 0x30
+
+-- the order number, high byte first
+abbrev pub orderBytes : Plan → List ℕ
+orderBytes p = (p .order / 256) ∷ (p .order % 256) ∷ []
+
+-- a 1b's bytes
+unfoldable pub bytesOf1b : Plan → ℕ → ℕ → ℕ → Vote → List ℕ
+bytesOf1b p ins acc mbal None = map1b ∷ ins ∷ acc ∷ mbal ∷ orderBytes p
+bytesOf1b p ins acc mbal (Cast bal val) = map1bVote ∷ ins ∷ acc ∷ mbal ∷ bal ∷ val ∷ orderBytes p
+
+-- the bytes of a message under a plan: the map, a byte for each of its fields, the order number
 unfoldable pub bytesOf : Plan → Message → List ℕ
-bytesOf p (Phase1a ins bal) = 0x09 ∷ ins ∷ bal ∷ []
-bytesOf p (Phase1b ins acc mbal vote) = bytesOf1b ins acc mbal vote
-bytesOf p (Phase2a ins bal val) = 0x19 ∷ ins ∷ bal ∷ val ∷ []
-bytesOf p (Phase2b ins acc bal val) = 0x1B ∷ ins ∷ acc ∷ bal ∷ val ∷ []
-bytesOf p (Decision val) = 0x10 ∷ val ∷ []
+bytesOf p (Phase1a ins bal) = map1a ∷ ins ∷ bal ∷ orderBytes p
+bytesOf p (Phase1b ins acc mbal vote) = bytesOf1b p ins acc mbal vote
+bytesOf p (Phase2a ins bal val) = map2a ∷ ins ∷ bal ∷ val ∷ orderBytes p
+bytesOf p (Phase2b ins acc bal val) = map2b ∷ ins ∷ acc ∷ bal ∷ val ∷ orderBytes p
+bytesOf p (Decision val) = mapDecision ∷ val ∷ orderBytes p
 
 -- how many bytes a message has
 unfoldable pub messageLength : Plan → Message → ℕ
@@ -53,7 +81,7 @@ messageLength p m = length (bytesOf p m)
 
 -- the bytes of a slot
 abbrev pub slotSize : ℕ
-slotSize = 6
+slotSize = 8
 
 -- a message followed by zeros, as it stands in a slot
 unfoldable pub slotOf : Plan → Message → List ℕ
@@ -62,23 +90,29 @@ slotOf p m = bytesOf p m ++ replicate (slotSize - messageLength p m) 0
 -- the constant table: entry `map` is the length of the message that `map` begins, and 0 for an unknown map
 unfoldable pub mapLengths : List ℕ
 mapLengths =
-    0 ∷ 0 ∷ 0 ∷ 0 ∷ 0 ∷ 0 ∷ 0 ∷ 4 ∷ 0 ∷ 3 ∷ 0 ∷ 0 ∷ 0 ∷ 0 ∷ 0 ∷ 0
-    ∷ 2 ∷ 0 ∷ 0 ∷ 0 ∷ 0 ∷ 0 ∷ 0 ∷ 0 ∷ 0 ∷ 4 ∷ 0 ∷ 5 ∷ 0 ∷ 0 ∷ 0 ∷ 6 ∷ []
+    0 ∷ 0 ∷ 0 ∷ 0 ∷ 0 ∷ 0 ∷ 0 ∷ 0 ∷ 0 ∷ 0 ∷ 0 ∷ 0 ∷ 0 ∷ 0 ∷ 0 ∷ 0
+    ∷ 0 ∷ 0 ∷ 0 ∷ 0 ∷ 0 ∷ 0 ∷ 0 ∷ 0 ∷ 0 ∷ 0 ∷ 0 ∷ 0 ∷ 0 ∷ 0 ∷ 0 ∷ 0
+    ∷ 0 ∷ 0 ∷ 0 ∷ 0 ∷ 0 ∷ 0 ∷ 0 ∷ 6 ∷ 0 ∷ 5 ∷ 0 ∷ 0 ∷ 0 ∷ 0 ∷ 0 ∷ 0
+    ∷ 4 ∷ 0 ∷ 0 ∷ 0 ∷ 0 ∷ 0 ∷ 0 ∷ 0 ∷ 0 ∷ 6 ∷ 0 ∷ 7 ∷ 0 ∷ 0 ∷ 0 ∷ 8 ∷ []
 
--- the table's entry; a first byte above 1F is unknown too
+-- the table's entry; a first byte above 3F is unknown too
 unfoldable pub mapLength : ℕ → ℕ
 mapLength map = getD mapLengths map 0
 
 -- the message that a known map and the five bytes after it make
 unfoldable pub fieldsMessage : ℕ → ℕ → ℕ → ℕ → ℕ → ℕ → Message
 fieldsMessage map b1 b2 b3 b4 b5 =
-    cond (eqb map 0x09) (Phase1a b1 b2)
-    (cond (eqb map 0x07) (Phase1b b1 b2 b3 None)
-    (cond (eqb map 0x1F) (Phase1b b1 b2 b3 (Cast b4 b5))
-    (cond (eqb map 0x19) (Phase2a b1 b2 b3)
-    (cond (eqb map 0x1B) (Phase2b b1 b2 b3 b4)
+    cond (eqb map map1a) (Phase1a b1 b2)
+    (cond (eqb map map1b) (Phase1b b1 b2 b3 None)
+    (cond (eqb map map1bVote) (Phase1b b1 b2 b3 (Cast b4 b5))
+    (cond (eqb map map2a) (Phase2a b1 b2 b3)
+    (cond (eqb map map2b) (Phase2b b1 b2 b3 b4)
     (Decision b1)))))
 
 -- the message that the bytes make, if their map is known
 unfoldable pub decode : List ℕ → Message
 decode bytes = fieldsMessage (getD bytes 0 0) (getD bytes 1 0) (getD bytes 2 0) (getD bytes 3 0) (getD bytes 4 0) (getD bytes 5 0)
+
+-- the two bytes before place `len` are the plan's order number
+unfoldable pub hasOrder : Plan → ℕ → List ℕ → Bool
+hasOrder p len bytes = eqb (getD bytes (len - 2) 0) (p .order / 256) && eqb (getD bytes (len - 1) 0) (p .order % 256)

@@ -1,24 +1,29 @@
 // The plan of an order, the messages, and their one byte form (document 01, "The plan and four tables" and "Message bytes").
 //
-//     Plan, is_plan                  the three counts, and refusal 1
+//     Plan, is_plan                  the three counts, and refusal 1; the order number
 //     Message, Vote                  the messages of the protocol; the vote report of a 1b
+//     MAP_1A ..                      the six bit maps
+//     INS ..                         where a message's fields stand
 //     SLOT_SIZE, map_length          the bytes of a slot; the length that a bit map stands for
 //     is_value, in_range             the ranges of the fields, and refusal 17
 //     Read, Written                  the answers of the reader and of the writer, which are the crate `codec`
 //     byte_at                        a byte, or 0 past the end
+//     order_of                       the order number of two bytes
 //     encode                         the byte form by itself
 //
 // What each of them means stands in specs/, where the reader and the writer are defined too.
 ghost use mathlib.Core.Path.{_≡_};
+ghost use Prim.Native.Nat.{_+_, _*_, _/_, _%_};
 ghost use lib.ListN.{getD};
 ghost use Rattle.message.specs.Plan.{isPlan};
 ghost use Rattle.message.specs.Form.{isValue, isVote, isInRange, slotOf, mapLength};
 
-// The plan of an order: how many resource managers (document 01: weights), acceptors and leaders it has.
+// The plan of an order: how many resource managers (document 01: weights), acceptors and leaders it has, and its number (document 02, Paper 1).
 pub struct Plan {
     pub rms: u8,
     pub acceptors: u8,
     pub leaders: u8,
+    pub order: u16,
 }
 
 // Whether the plan is in range: 1 to 16 resource managers, 1 to 7 acceptors, 1 to 4 leaders. Where it is not, every call refuses 1.
@@ -65,11 +70,48 @@ pub enum Message {
     },
 }
 
-// The bytes of a slot, and of the writer's answer: the longest message fits.
-pub const SLOT_SIZE: usize = 6;
+// The bit maps: bits 0 to 4 stand for ins, acc, mbal, bal and val; bit 5 always stands, for the order number.
+pub const MAP_1A: u8 = 0x29;
 
-// The length of the message that a bit map begins, 0 for an unknown map (document 01's constant table of 32 entries).
-const MAP_LENGTHS: [u8; 32] = [
+pub const MAP_1B: u8 = 0x27;
+
+pub const MAP_1B_VOTE: u8 = 0x3F;
+
+pub const MAP_2A: u8 = 0x39;
+
+pub const MAP_2B: u8 = 0x3B;
+
+pub const MAP_DECISION: u8 = 0x30;
+
+// Where the fields stand: after the map, in the order of its bits. An instance is in all messages but a decision, an acceptor in a 1b and a
+// 2b.
+pub const INS: usize = 1;
+
+pub const ACC: usize = 2;
+
+pub const BAL_1A: usize = 2;
+
+pub const MBAL_1B: usize = 3;
+
+pub const BAL_1B: usize = 4;
+
+pub const VAL_1B: usize = 5;
+
+pub const BAL_2A: usize = 2;
+
+pub const VAL_2A: usize = 3;
+
+pub const BAL_2B: usize = 3;
+
+pub const VAL_2B: usize = 4;
+
+pub const VAL_DECISION: usize = 1;
+
+// The bytes of a slot, and of the writer's answer: the longest message fits.
+pub const SLOT_SIZE: usize = 8;
+
+// The length of the message that a bit map begins, 0 for an unknown map: document 01's constant table, of 64 entries since a map has six bits.
+const MAP_LENGTHS: [u8; 64] = [
     0,
     0,
     0,
@@ -77,16 +119,6 @@ const MAP_LENGTHS: [u8; 32] = [
     0,
     0,
     0,
-    4,
-    0,
-    3,
-    0,
-    0,
-    0,
-    0,
-    0,
-    0,
-    2,
     0,
     0,
     0,
@@ -95,13 +127,55 @@ const MAP_LENGTHS: [u8; 32] = [
     0,
     0,
     0,
-    4,
+    0,
+    0,
+    0,
+    0,
+    0,
+    0,
+    0,
+    0,
+    0,
+    0,
+    0,
+    0,
+    0,
+    0,
+    0,
+    0,
+    0,
+    0,
+    0,
+    0,
+    0,
+    0,
+    0,
+    0,
+    6,
     0,
     5,
     0,
     0,
     0,
+    0,
+    0,
+    0,
+    4,
+    0,
+    0,
+    0,
+    0,
+    0,
+    0,
+    0,
+    0,
     6,
+    0,
+    7,
+    0,
+    0,
+    0,
+    8,
 ];
 
 // The length that a first byte stands for: the table's entry, or 0 past its end.
@@ -109,7 +183,7 @@ pub fn map_length(map: u8) -> usize
     ensures { λ r. ⌜ r ≡ mapLength map ⌝ }
 {
     let index = map as usize;
-    if 32 <= index {
+    if 64 <= index {
         return 0;
     }
     MAP_LENGTHS[index] as usize
@@ -167,12 +241,34 @@ pub fn byte_at(bytes: &[u8], at: usize) -> u8
     if at < bytes.len() { bytes[at] } else { 0 }
 }
 
+// The order number of two bytes, the higher first.
+pub fn order_of(high: u8, low: u8) -> u16
+    ensures { λ r. ⌜ r ≡ 256 * high + low ⌝ }
+{
+    256 * (high as u16) + (low as u16)
+}
+
+// The two bytes of a plan's order number.
+fn order_high(plan: Plan) -> u8
+    ensures { λ r. ⌜ r ≡ plan .order / 256 ⌝ }
+{
+    (plan.order / 256) as u8
+}
+
+fn order_low(plan: Plan) -> u8
+    ensures { λ r. ⌜ r ≡ plan .order % 256 ⌝ }
+{
+    (plan.order % 256) as u8
+}
+
 fn encode_1b(plan: Plan, ins: u8, acc: u8, mbal: u8, vote: Vote) -> [u8; SLOT_SIZE]
     ensures { λ r. ⌜ r ≡ slotOf plan (Message.Phase1b ins acc mbal vote) ⌝ }
 {
+    let high = order_high(plan);
+    let low = order_low(plan);
     match vote {
-        Vote::None => [0x07, ins, acc, mbal, 0, 0],
-        Vote::Cast { bal, val } => [0x1F, ins, acc, mbal, bal, val],
+        Vote::None => [MAP_1B, ins, acc, mbal, high, low, 0, 0],
+        Vote::Cast { bal, val } => [MAP_1B_VOTE, ins, acc, mbal, bal, val, high, low],
     }
 }
 
@@ -180,17 +276,19 @@ fn encode_1b(plan: Plan, ins: u8, acc: u8, mbal: u8, vote: Vote) -> [u8; SLOT_SI
 pub fn encode(plan: Plan, m: Message) -> [u8; SLOT_SIZE]
     ensures { λ r. ⌜ r ≡ slotOf plan m ⌝ }
 {
+    let high = order_high(plan);
+    let low = order_low(plan);
     match m {
-        Message::Phase1a { ins, bal } => [0x09, ins, bal, 0, 0, 0],
+        Message::Phase1a { ins, bal } => [MAP_1A, ins, bal, high, low, 0, 0, 0],
         Message::Phase1b {
             ins,
             acc,
             mbal,
             vote,
         } => encode_1b(plan, ins, acc, mbal, vote),
-        Message::Phase2a { ins, bal, val } => [0x19, ins, bal, val, 0, 0],
-        Message::Phase2b { ins, acc, bal, val } => [0x1B, ins, acc, bal, val, 0],
-        Message::Decision { val } => [0x10, val, 0, 0, 0, 0],
+        Message::Phase2a { ins, bal, val } => [MAP_2A, ins, bal, val, high, low, 0, 0],
+        Message::Phase2b { ins, acc, bal, val } => [MAP_2B, ins, acc, bal, val, high, low, 0],
+        Message::Decision { val } => [MAP_DECISION, val, high, low, 0, 0, 0, 0],
     }
 }
 

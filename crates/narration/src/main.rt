@@ -361,7 +361,7 @@ fn print(input: &[u8]) {
 }
 
 fn input_buffer() -> [u8; MAX_INPUT]
-    ensures { λ r. ⌜ 32771 ≡ length r ⌝ }
+    ensures { λ r. ⌜ 32773 ≡ length r ⌝ }
 {
     [0; MAX_INPUT]
 }

@@ -9,7 +9,7 @@ use rehearsal_input::MAX_INPUT;
 use rehearsing::MAX_OUTPUT;
 
 fn input_buffer() -> [u8; MAX_INPUT]
-    ensures { λ r. ⌜ 32771 ≡ length r ⌝ }
+    ensures { λ r. ⌜ 32773 ≡ length r ⌝ }
 {
     [0; MAX_INPUT]
 }

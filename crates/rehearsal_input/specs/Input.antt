@@ -1,5 +1,6 @@
--- The input of a rehearsal (document 01, "The rehearsal": "n, A, L, then events (at most 8,192; the rest is ignored)").
---     planOf, planIn, planOutcome     the plan that an input begins with, or refusal 1; what the code's enum stands for
+-- The input of a rehearsal (document 01, "The rehearsal": "n, A, L, then events (at most 8,192; the rest is ignored)"; document 02, Paper 1:
+-- the order number "as two bytes after L").
+--     planSize, planOf, planIn, planOutcome     the plan that an input begins with, or refusal 1; what the code's enum stands for
 --     eventsIn                        the bytes of the events after it
 --     eventCount, eventAt             how many events they are, and the k-th, from 0 on
 -- Their laws are in Input/Laws.antt. Assumes nothing.
@@ -15,14 +16,18 @@ use Rattle.message.specs.Plan.{isPlan}
 use Rattle.rehearsal_input.specs.declared.PlanRead.{PlanRead}
 use Rattle.rehearsal_input.specs.declared.PlanRead.the-variants.{Given, Refused}
 
--- "n, A, L"
+-- "n, A, L" and the order number
+abbrev pub planSize : ℕ
+planSize = 5
+
 abbrev pub planOf : List ℕ → Plan
-planOf input = record { rms = getD input 0 0; acceptors = getD input 1 0; leaders = getD input 2 0 }
+planOf input =
+    record { rms = getD input 0 0; acceptors = getD input 1 0; leaders = getD input 2 0; order = 256 * getD input 3 0 + getD input 4 0 }
 
 -- "A bad or short plan": 1
 unfoldable pub planIn : List ℕ → Outcome Plan
 planIn input =
-    refuseIf (ltb (length input) 3) 1
+    refuseIf (ltb (length input) planSize) 1
     (refuseIf (not (isPlan (planOf input))) 1
     (accepted (planOf input)))
 
@@ -33,7 +38,7 @@ planOutcome (Refused number) = refused number
 
 -- "then events (at most 8,192; the rest is ignored)", four bytes each
 unfoldable pub eventsIn : List ℕ → List ℕ
-eventsIn input = take (4 * 8192) (drop 3 input)
+eventsIn input = take (4 * 8192) (drop planSize input)
 
 -- one for every four bytes, and one for what is left: "a cut last event"
 abbrev pub eventCount : List ℕ → ℕ

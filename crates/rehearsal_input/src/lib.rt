@@ -10,8 +10,11 @@ ghost use mathlib.Core.Path.{_≡_};
 ghost use Rattle.rehearsal_input.specs.Input.{planOutcome, planIn, eventsIn, eventCount, eventAt};
 use message::Plan;
 
-// A plan of three bytes and 8,192 events of four; what follows is ignored.
-pub const MAX_INPUT: usize = 32771;
+// The three counts of a plan, and the order number, high byte first.
+const PLAN_SIZE: usize = 5;
+
+// A plan and 8,192 events of four bytes; what follows is ignored.
+pub const MAX_INPUT: usize = 32773;
 
 // The plan that an input begins with, or the refusal's number.
 pub enum PlanRead {
@@ -19,17 +22,18 @@ pub enum PlanRead {
     Refused(u8),
 }
 
-// The plan from the first three bytes: 1 where there are fewer, or where one is out of range.
+// The plan from the first five bytes: 1 where there are fewer, or where a count is out of range.
 pub fn plan_in(input: &[u8]) -> PlanRead
     ensures { λ r. ⌜ planOutcome r ≡ planIn (now (input .entry)) ⌝ }
 {
-    if input.len() < 3 {
+    if input.len() < PLAN_SIZE {
         return PlanRead::Refused(1);
     }
     let plan = Plan {
         rms: input[0],
         acceptors: input[1],
         leaders: input[2],
+        order: message::order_of(input[3], input[4]),
     };
     if !message::is_plan(plan) {
         return PlanRead::Refused(1);
@@ -48,7 +52,7 @@ pub fn events_in(input: &[u8]) -> &[u8]
     ensures { λ r. ⌜ now r ≡ eventsIn (now (input .entry)) ⌝ }
 {
     let end = least(input.len(), MAX_INPUT);
-    let from = least(3, end);
+    let from = least(PLAN_SIZE, end);
     &input[from..end]
 }
 

@@ -35,8 +35,8 @@ module _ (p : Plan) (plan : isPlan p ≡ true) where
   votes-within =
       mul-le-mul {n₁ = p .rms} {m₁ = p .acceptors} {n₂ = 16} {m₂ = 7} (plan-bounds p plan .rms-most) (plan-bounds p plan .acceptors-most)
 
-  pub run-opened : (w q n i : List ℕ) → (length w ≡ 16) × (length q ≡ 336) × (length n ≡ 6144) × (length i ≡ 24576)
-      → (o : Opening) → o ≡ recordOpen p (tablesOf (take (p .rms) w) (take (3 * (p .rms * p .acceptors)) q) n (take (p .leaders * 6144) i))
+  pub run-opened : (w q n i : List ℕ) → (length w ≡ 16) × (length q ≡ 336) × (length n ≡ 8192) × (length i ≡ 32768)
+      → (o : Opening) → o ≡ recordOpen p (tablesOf (take (p .rms) w) (take (3 * (p .rms * p .acceptors)) q) n (take (p .leaders * 8192) i))
       → (calls : List Call) (output : List ℕ) (s : Put) → s ≡ put 0 (textOf p (o .tables) calls) output
       → s ≡ put 0 (textOf p (freshTables 1024 p) calls) output
   unfolding isTableLength
@@ -46,7 +46,7 @@ module _ (p : Plan) (plan : isPlan p ≡ true) where
       let first = b .rms-most in
       let last = b .leaders-most in
       let is = opens p 1024 plan refl _ (length-take-le (p .rms) w (omega arith)) (length-take-le (3 * (p .rms * p .acceptors)) q (omega arith))
-      (lengths .2) (length-take-le (p .leaders * 6144) i (omega arith)) in
+      (lengths .2) (length-take-le (p .leaders * 8192) i (omega arith)) in
       run ∙ ap (λ (x : Tables). put 0 (textOf p x calls) output) (ap (λ (x : Opening). x .tables) (cleared ∙ is))
 
 module _ (input output : List ℕ) where

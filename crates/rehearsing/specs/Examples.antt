@@ -1,4 +1,4 @@
--- Document 01's example ("The rehearsal") and others, by computation.
+-- Document 01's example ("The rehearsal"), with document 02's 00 00 after L, and others, by computation.
 --     Example, examples, examples-hold     document 01's; cut and bad plans, no events, a cut event, the words, and the largest plan
 --     document-01                          its input and its seven lines
 -- Assumes nothing.
@@ -8,7 +8,7 @@ use mathlib.Core.Path.{_≡_, refl, ap}
 use lib.ListN.{getD}
 use Rattle.message.specs.Outcome.{andThen, refuseIf}
 use Rattle.message.specs.Plan.{isPlan, isCount}
-use Rattle.message.specs.Form.{isValue, isVote, isInRange, bytesOf, bytesOf1b, messageLength, slotOf, mapLengths, mapLength, fieldsMessage, decode}
+use Rattle.message.specs.Form.{isValue, isVote, isInRange, bytesOf, bytesOf1b, messageLength, slotOf, mapLengths, mapLength, fieldsMessage, decode, hasOrder}
 use Rattle.message.specs.Codec.{readMessage}
 use Rattle.slots.specs.All.{all}
 use Rattle.slots.specs.Table.{isTableLength, slotsUpTo, slots, isZero, readSlot, readTable, allUnused, isOrdered, isTable, usedMessages, messages}
@@ -31,7 +31,7 @@ use Rattle.rehearsing.specs.Rehearsal.{callsIn, freshTables, textOf, pri
 
 abbrev pub input-01 : List ℕ
 input-01 =
-    0x01 ∷ 0x01 ∷ 0x01
+    0x01 ∷ 0x01 ∷ 0x01 ∷ 0x00 ∷ 0x00
     ∷ 0x00 ∷ 0x00 ∷ 0x00 ∷ 0x00
     ∷ 0x03 ∷ 0x00 ∷ 0x00 ∷ 0x00
     ∷ 0x04 ∷ 0x00 ∷ 0x00 ∷ 0x01
@@ -43,7 +43,7 @@ input-01 =
 -- the largest plan: weight 15 prepares, acceptor 6 votes, leader 3 takes the vote
 abbrev input-largest : List ℕ
 input-largest =
-    0x10 ∷ 0x07 ∷ 0x04
+    0x10 ∷ 0x07 ∷ 0x04 ∷ 0xFF ∷ 0xFF
     ∷ 0x00 ∷ 0x0F ∷ 0x00 ∷ 0x00
     ∷ 0x03 ∷ 0x06 ∷ 0x00 ∷ 0x00
     ∷ 0x04 ∷ 0x03 ∷ 0x00 ∷ 0x01
@@ -57,21 +57,22 @@ unfoldable pub examples : List Example
 examples =
     record { input = input-01; prints = ascii "0\n0\n0\n0\n0\n12\nCOMMITTED\n" }
     ∷ record { input = []; prints = ascii "1\n" }
-    ∷ record { input = 0x01 ∷ 0x01 ∷ []; prints = ascii "1\n" }
-    ∷ record { input = 0x00 ∷ 0x01 ∷ 0x01 ∷ 0x00 ∷ 0x00 ∷ 0x00 ∷ 0x00 ∷ []; prints = ascii "1\n" }
-    ∷ record { input = 0x11 ∷ 0x01 ∷ 0x01 ∷ []; prints = ascii "1\n" }
-    ∷ record { input = 0x01 ∷ 0x08 ∷ 0x01 ∷ []; prints = ascii "1\n" }
-    ∷ record { input = 0x01 ∷ 0x01 ∷ 0x05 ∷ []; prints = ascii "1\n" }
-    ∷ record { input = 0x01 ∷ 0x01 ∷ 0x01 ∷ []; prints = ascii "OPEN\n" }
-    ∷ record { input = 0x01 ∷ 0x01 ∷ 0x01 ∷ 0x00 ∷ 0x00 ∷ 0x00 ∷ []; prints = ascii "7\nOPEN\n" }
-    ∷ record { input = 0x01 ∷ 0x01 ∷ 0x01 ∷ 0x00 ∷ 0x00 ∷ 0x00 ∷ 0x00 ∷ 0x00 ∷ []; prints = ascii "0\n7\nOPEN\n" }
-    ∷ record { input = 0x01 ∷ 0x01 ∷ 0x01 ∷ 0x01 ∷ 0x00 ∷ 0x00 ∷ 0x00 ∷ []; prints = ascii "0\nABORTED\n" }
-    ∷ record { input = 0x02 ∷ 0x01 ∷ 0x01 ∷ 0x01 ∷ 0x00 ∷ 0x00 ∷ 0x00 ∷ []; prints = ascii "0\nOPEN\n" }
+    ∷ record { input = 0x01 ∷ 0x01 ∷ 0x01 ∷ []; prints = ascii "1\n" }
+    ∷ record { input = 0x01 ∷ 0x01 ∷ 0x01 ∷ 0x00 ∷ []; prints = ascii "1\n" }
+    ∷ record { input = 0x00 ∷ 0x01 ∷ 0x01 ∷ 0x00 ∷ 0x00 ∷ 0x00 ∷ 0x00 ∷ 0x00 ∷ 0x00 ∷ []; prints = ascii "1\n" }
+    ∷ record { input = 0x11 ∷ 0x01 ∷ 0x01 ∷ 0x00 ∷ 0x00 ∷ []; prints = ascii "1\n" }
+    ∷ record { input = 0x01 ∷ 0x08 ∷ 0x01 ∷ 0x00 ∷ 0x00 ∷ []; prints = ascii "1\n" }
+    ∷ record { input = 0x01 ∷ 0x01 ∷ 0x05 ∷ 0x00 ∷ 0x00 ∷ []; prints = ascii "1\n" }
+    ∷ record { input = 0x01 ∷ 0x01 ∷ 0x01 ∷ 0x00 ∷ 0x00 ∷ []; prints = ascii "OPEN\n" }
+    ∷ record { input = 0x01 ∷ 0x01 ∷ 0x01 ∷ 0x00 ∷ 0x00 ∷ 0x00 ∷ 0x00 ∷ 0x00 ∷ []; prints = ascii "7\nOPEN\n" }
+    ∷ record { input = 0x01 ∷ 0x01 ∷ 0x01 ∷ 0x00 ∷ 0x00 ∷ 0x00 ∷ 0x00 ∷ 0x00 ∷ 0x00 ∷ 0x00 ∷ []; prints = ascii "0\n7\nOPEN\n" }
+    ∷ record { input = 0x01 ∷ 0x01 ∷ 0x01 ∷ 0x00 ∷ 0x00 ∷ 0x01 ∷ 0x00 ∷ 0x00 ∷ 0x00 ∷ []; prints = ascii "0\nABORTED\n" }
+    ∷ record { input = 0x02 ∷ 0x01 ∷ 0x01 ∷ 0x00 ∷ 0x00 ∷ 0x01 ∷ 0x00 ∷ 0x00 ∷ 0x00 ∷ []; prints = ascii "0\nOPEN\n" }
     ∷ record { input = input-largest; prints = ascii "0\n0\n0\nOPEN\n" }
     ∷ []
 
 pub examples-hold : map (λ (e : Example). rehearsed (e .input)) examples ≡ map (λ (e : Example). e .prints) examples
-unfolding examples andThen refuseIf isPlan isCount isValue isVote isInRange bytesOf bytesOf1b messageLength slotOf mapLengths mapLength fieldsMessage decode
+unfolding examples andThen refuseIf isPlan isCount isValue isVote isInRange bytesOf bytesOf1b messageLength slotOf mapLengths mapLength fieldsMessage decode hasOrder
     readMessage all isTableLength slotsUpTo slots isZero readSlot readTable allUnused isOrdered isTable usedMessages messages sameBytes storeAt
     sameMessage placeFrom placeIn messageAt sending slotNumber whoLimit areZero areArguments isEvent areStates rmJudged rmChoose rmReceiveDecision
     rmReceive rmKind rmVerdict rmStep voteAt isVoteState areVotes acceptorJudged voteOf phase1b phase2b acceptorReceive acceptorVerdict

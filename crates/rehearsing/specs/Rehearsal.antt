@@ -15,6 +15,7 @@ use Rattle.message.specs.declared.Plan.{Plan}
 use Rattle.message.specs.Outcome.{Outcome, accepted, refused, numberOf}
 use Rattle.change.specs.declared.Sent.{Sent}
 use Rattle.ending.specs.Ending.{endingOf}
+use Rattle.slots.specs.Table.{slotSize}
 use Rattle.record.specs.Record.{Tables, tablesOf}
 use Rattle.safety.specs.Theorems.{Call, event, answers, tablesAfter}
 use Rattle.rehearsal_input.specs.Input.{planIn, eventsIn}
@@ -26,10 +27,10 @@ callsIn zero bytes = []
 callsIn (suc most) [] = []
 callsIn (suc most) (b ∷ bytes) = event (take 4 (b ∷ bytes)) ∷ callsIn most (drop 4 (b ∷ bytes))
 
--- zeros: n bytes in W, 3 × n × A in Q, and slots of six bytes
+-- zeros: n bytes in W, 3 × n × A in Q, and so many slots
 unfoldable pub freshTables : ℕ → Plan → Tables
 freshTables slots p =
-    tablesOf (replicate (p .rms) 0) (replicate (3 * (p .rms * p .acceptors)) 0) (replicate (6 * slots) 0) (replicate (p .leaders * (6 * slots)) 0)
+    tablesOf (replicate (p .rms) 0) (replicate (3 * (p .rms * p .acceptors)) 0) (replicate (slotSize * slots) 0) (replicate (p .leaders * (slotSize * slots)) 0)
 
 -- "one line per event, 0 or the refusal"
 abbrev pub linesOf : List (Outcome Sent) → List ℕ

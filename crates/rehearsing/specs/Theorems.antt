@@ -27,21 +27,21 @@ use Rattle.rehearsing.specs.Rehearsal.{callsIn, freshTables, linesOf, te
 use Rattle.rehearsing.specs.Rehearsal.Laws.{calls-take, opens}
 
 module _ (input : List ℕ) where
-  pub plan-short : length input < 3 → rehearsed input ≡ ascii "1\n"
+  pub plan-short : length input < 5 → rehearsed input ≡ ascii "1\n"
   unfolding rehearsed printedFor line
   plan-short h = rw (planIn-short input h)
 
-  module _ (h : 3 ≤ length input) where
+  module _ (h : 5 ≤ length input) where
     pub plan-bad : isPlan (planOf input) ≡ false → rehearsed input ≡ ascii "1\n"
     unfolding rehearsed printedFor line
     plan-bad bad = rw (planIn-bad input h bad)
 
     pub printed : isPlan (planOf input) ≡ true
         → rehearsed input
-        ≡ linesOf (answers (planOf input) (freshTables 1024 (planOf input)) (callsIn 8192 (drop 3 input)))
-        ++ wordOf (endingOf (tablesAfter (planOf input) (freshTables 1024 (planOf input)) (callsIn 8192 (drop 3 input)) .states))
+        ≡ linesOf (answers (planOf input) (freshTables 1024 (planOf input)) (callsIn 8192 (drop 5 input)))
+        ++ wordOf (endingOf (tablesAfter (planOf input) (freshTables 1024 (planOf input)) (callsIn 8192 (drop 5 input)) .states))
     unfolding rehearsed printedFor textOf eventsIn
-    printed good = rw (planIn-good input h good, calls-take 8192 (drop 3 input))
+    printed good = rw (planIn-good input h good, calls-take 8192 (drop 5 input))
 
 zeros : (n : ℕ) → replicate n 0 ≡ zeroed (replicate n 0)
 unfolding zeroed
@@ -50,11 +50,11 @@ zeros n = rw (length-replicate {A = ℕ} n 0)
 module _ (p : Plan) where
   fresh : (slots : ℕ) → Fresh (freshTables slots p)
   unfolding freshTables
-  fresh slots = (zeros (p .rms), zeros (3 * (p .rms * p .acceptors)), zeros (6 * slots), zeros (p .leaders * (6 * slots)))
+  fresh slots = (zeros (p .rms), zeros (3 * (p .rms * p .acceptors)), zeros (8 * slots), zeros (p .leaders * (8 * slots)))
 
   pub opened : isPlan p ≡ true → (t : Tables)
       → length (t .states) ≡ p .rms → length (t .votes) ≡ 3 * (p .rms * p .acceptors)
-      → length (t .network) ≡ 6 * 1024 → length (t .inboxes) ≡ p .leaders * (6 * 1024)
+      → length (t .network) ≡ 8 * 1024 → length (t .inboxes) ≡ p .leaders * (8 * 1024)
       → (recordOpen p t .answer ≡ accepted tt) × (recordOpen p t .tables ≡ freshTables 1024 p)
   unfolding isTableLength
   opened plan t w q n i = rw (opens p 1024 plan refl t w q n i) (refl, refl)
@@ -68,6 +68,6 @@ calls-count zero bytes = omega arith
 calls-count (suc k) [] = omega arith
 calls-count (suc k) (x ∷ xs) = let h = calls-count k (drop 3 xs) in let l = length-drop 3 xs in omega arith
 
-pub rest-ignored : (input more : List ℕ) → length input ≡ 32771 → rehearsed (input ++ more) ≡ rehearsed input
+pub rest-ignored : (input more : List ℕ) → length input ≡ 32773 → rehearsed (input ++ more) ≡ rehearsed input
 unfolding rehearsed
 rest-ignored input more size = rw (planIn-more input more (omega arith), events-rest input more size)

@@ -23,14 +23,14 @@ use rehearsal_input::PlanRead;
 // Three bytes for each of 8,192 events, and the longest word.
 pub const MAX_OUTPUT: usize = 24586;
 
-// The four tables for the largest plan: 16 resource managers, 7 acceptors, 4 leaders; 1,024 slots of six bytes in N and in each inbox.
+// The four tables for the largest plan: 16 resource managers, 7 acceptors, 4 leaders; 1,024 slots of eight bytes in N and in each inbox.
 const STATES_SIZE: usize = 16;
 
 const VOTES_SIZE: usize = 336;
 
-const NETWORK_SIZE: usize = 6144;
+const NETWORK_SIZE: usize = 8192;
 
-const INBOXES_SIZE: usize = 24576;
+const INBOXES_SIZE: usize = 32768;
 
 fn states_table() -> [u8; STATES_SIZE]
     ensures { λ r. ⌜ length r ≡ 16 ⌝ }
@@ -45,13 +45,13 @@ fn votes_table() -> [u8; VOTES_SIZE]
 }
 
 fn network_table() -> [u8; NETWORK_SIZE]
-    ensures { λ r. ⌜ length r ≡ 6144 ⌝ }
+    ensures { λ r. ⌜ length r ≡ 8192 ⌝ }
 {
     [0; NETWORK_SIZE]
 }
 
 fn inboxes_table() -> [u8; INBOXES_SIZE]
-    ensures { λ r. ⌜ length r ≡ 24576 ⌝ }
+    ensures { λ r. ⌜ length r ≡ 32768 ⌝ }
 {
     [0; INBOXES_SIZE]
 }
@@ -94,7 +94,7 @@ fn run(
     output: &mut [u8],
 ) -> usize
     requires { ⌜ isPlan plan ≡ true ⌝ }
-    requires { ⌜ (length (now states) ≡ 16) × (length (now votes) ≡ 336) × (length (now network) ≡ 6144) × (length (now inboxes) ≡ 24576) ⌝ }
+    requires { ⌜ (length (now states) ≡ 16) × (length (now votes) ≡ 336) × (length (now network) ≡ 8192) × (length (now inboxes) ≡ 32768) ⌝ }
     requires { ⌜ length (now events) ≤ 32768 ⌝ }
     ensures { λ r. ⌜ putOf r (now (output .exit)) ≡ put 0 (textOf plan (freshTables 1024 plan)
         (callsIn 8192 (now (events .entry)))) (now (output .entry)) ⌝ }

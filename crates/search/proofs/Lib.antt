@@ -1,3 +1,5 @@
 -- The proofs that belong to no one function.
---     Look    the code's look at a slot, and the cases of `locateFrom`
+--     Blocks   the slots of a block
+--     Look     looking for a form slot by slot, and block by block
+pub mod Blocks
 pub mod Look

@@ -1,25 +1,27 @@
 // Looking for a message in a table, and what sending one comes to. In a table that nobody judged it looks at the bytes alike.
 //
-//     word, word_from, differ bytes as one number, so that a slot is compared in two steps and with one branch
-//     word_at, common         the first four bytes of a slot as one number; the bits that the map bytes of four slots share
-//     has_candidate, skip     four slots at a time, past those that are in use and begin otherwise
-//     next_window             the next slot to compare: of the same four, or of the next four with a candidate
-//     is_form, locate_form    whether a slot has these six bytes; the first such slot, or the first unused one
+//     word_from               four bytes as one number, a word
+//     pair, eight_from        two words as one number, so that a slot is compared in one step
+//     same, join, hits        whether one word of a block of slots is the form's first, without a branch
+//     meet, shared            the bits that the maps of a block share, without a branch
+//     is_passed               a block of which no slot is unused or the form
+//     locate_form             the first slot with these eight bytes, or the first unused one
 //     locate_message          the same of a message
 //     send_message            the slot where a message stands or goes, decided before anything is stored
 //
-// What each of them means stands in the specs/ of `slots`. No public function has a `requires`, and none looks past its table.
-ghost use mathlib.Core.Bool.{false, _&&_};
-ghost use mathlib.Core.List.{[]};
+// What each of them means stands in the specs/ of `slots`; how bytes are taken as numbers, and blocks, in specs/. No public function has
+// a `requires`, and none looks past its table.
+ghost use mathlib.Core.Bool.{true};
 ghost use mathlib.Core.Path.{_≡_};
-ghost use Prim.Native.Nat.{_+_, _*_, _/_, _≤_, _<_};
-ghost use lib.Dec.{eqb};
-ghost use lib.ListN.{length, getD, drop};
+ghost use Prim.Native.Nat.{_+_, _/_, _≤_};
+ghost use lib.ListN.{length};
 ghost use Rattle.message.specs.Form.{slotOf};
-ghost use Rattle.slots.specs.Table.{slotSize, slots, sameBytes};
-ghost use Rattle.slots.specs.Table.Scan.{locate, locateFrom};
-ghost use Rattle.slots.specs.Table.Scan.Laws.Word.{Word, WordFrom, Common, Others};
+ghost use Rattle.slots.specs.Table.{slotSize};
+ghost use Rattle.slots.specs.Table.Scan.{locate};
 ghost use Rattle.slots.specs.View.Bytes.{viewBytes};
+ghost use Rattle.slots.specs.Table.Words.{wordSize, WordFrom, AllUsed};
+ghost use Rattle.search.specs.Words.{lowByte, Pair, EightFrom};
+ghost use Rattle.search.specs.Blocks.{blockSlots, blockSize, blockWords, NoneBegins, Passed};
 use message::Message;
 use message::Plan;
 use message::SLOT_SIZE;
@@ -27,144 +29,140 @@ use slots::Place;
 use slots::Send;
 use slots::Store;
 
-fn word(b0: u8, b1: u8, b2: u8, b3: u8) -> u32
-    ensures { λ r. ⌜ Word b0 b1 b2 b3 r ⌝ }
-{
-    b0 as u32 + b1 as u32 * 0x100 + b2 as u32 * 0x1_0000 + b3 as u32 * 0x100_0000
-}
+// The bytes of a word.
+const WORD_SIZE: usize = 4;
 
-// Zero exactly where `a` is `b` and `c` is `d`.
-fn differ(a: u32, b: u32, c: u32, d: u32) -> u32
-    ensures { λ r. ⌜ eqb r 0 ≡ (eqb a b && eqb c d) ⌝ }
-{
-    (a ^ b) | (c ^ d)
-}
+// So many slots are looked at together without a branch: a block. Its bytes, its words, and where its last slot begins.
+const BLOCK_SLOTS: usize = 32;
 
-// Four bytes from an index on.
+const BLOCK_SIZE: usize = BLOCK_SLOTS * SLOT_SIZE;
+
+const BLOCK_WORDS: usize = BLOCK_SIZE / WORD_SIZE;
+
+const LAST_SLOT: usize = BLOCK_SIZE - SLOT_SIZE;
+
+// The lowest byte of a number is what it leaves when divided by this.
+const BYTE: u64 = 0x100;
+
+// Four bytes from an index on as one number.
 fn word_from(bytes: &[u8], at: usize) -> u32
-    requires { ⌜ at + 4 ≤ length (now bytes) ⌝ }
+    requires { ⌜ at + wordSize ≤ length (now bytes) ⌝ }
     ensures { λ r. ⌜ WordFrom (now (bytes .entry)) at r ⌝ }
 {
-    word(bytes[at], bytes[at + 1], bytes[at + 2], bytes[at + 3])
+    slots::word(bytes[at], bytes[at + 1], bytes[at + 2], bytes[at + 3])
 }
 
-// The first four bytes of the slot at a place.
-fn word_at(table: &[u8], place: usize) -> u32
-    requires { ⌜ place < length (now table) / slotSize ⌝ }
-    ensures { λ r. ⌜ WordFrom (now (table .entry)) (place * slotSize) r ⌝ }
+// Two words as one number, the first of them the lower.
+fn pair(low: u32, high: u32) -> u64
+    ensures { λ r. ⌜ Pair low high r ⌝ }
 {
-    word_from(table, place * SLOT_SIZE)
+    low as u64 + high as u64 * 0x1_0000_0000
 }
 
-// The bits that the lowest bytes share: none where one of them is zero. All maps but that of a decision share one.
-fn common(a: u32, b: u32, c: u32, d: u32) -> u32
-    ensures { λ r. ⌜ Common a b c d r ⌝ }
+// Eight bytes from an index on.
+fn eight_from(bytes: &[u8], at: usize) -> u64
+    requires { ⌜ at + slotSize ≤ length (now bytes) ⌝ }
+    ensures { λ r. ⌜ EightFrom (now (bytes .entry)) at r ⌝ }
 {
-    (a % 0x100) & (b % 0x100) & (c % 0x100) & (d % 0x100)
+    pair(word_from(bytes, at), word_from(bytes, at + WORD_SIZE))
 }
 
-// False only where no slot of the four from a place on is a candidate: they share a bit of their maps, so that none is unused, and none
-// begins with these bytes.
-fn has_candidate(table: &[u8], place: usize, head: u32) -> bool
-    requires { ⌜ place + 3 < length (now table) / slotSize ⌝ }
-    ensures { λ r. ⌜ (r ≡ false → Others (now (table .entry)) place head) ⌝ }
+// Not zero where the two are the same.
+fn same(a: u32, b: u32) -> u32
+    ensures { λ r. ⌜ (r ≡ 0 → a ≡ b → ⊥) ⌝ }
 {
-    let a = word_at(table, place);
-    let b = word_at(table, place + 1);
-    let c = word_at(table, place + 2);
-    let d = word_at(table, place + 3);
-    if common(a, b, c, d) == 0 {
-        return true;
-    }
-    if a == head {
-        return true;
-    }
-    if b == head {
-        return true;
-    }
-    if c == head {
-        return true;
-    }
-    d == head
+    if a == b { 1 } else { 0 }
 }
 
-// From a place on, past four slots at a time while none of them is a candidate.
-fn skip(table: &[u8], form: &[u8; SLOT_SIZE], start: usize) -> usize
-    requires { ⌜ (length (now form) ≡ slotSize) × (start ≤ length (now table) / slotSize) ⌝ }
-    ensures { λ r. ⌜ (start ≤ r) × (r ≤ length (now (table .entry)) / slotSize) ×
-        (locateFrom r (drop r (slots (now (table .entry)))) (now (form .entry)) ≡ locateFrom start (drop start (slots (now (table .entry)))) (now (form .entry))) ⌝ }
+// Zero only where both are.
+fn join(a: u32, b: u32) -> u32
+    ensures { λ r. ⌜ (r ≡ 0 → (a ≡ 0) × (b ≡ 0)) ⌝ }
 {
-    let head = word(form[0], form[1], form[2], form[3]);
-    let count = table.len() / SLOT_SIZE;
-    let mut place = start;
-    while 3 < count - place {
-        if has_candidate(table, place, head) {
-            return place;
-        }
-        place += 4;
-    }
-    place
+    a | b
 }
 
-// Whether the slot at a place, which begins with `map`, has these six bytes.
-fn is_form(table: &[u8], place: usize, map: u8, form: &[u8; SLOT_SIZE]) -> bool
-    requires { ⌜ (length (now form) ≡ slotSize) × (place < length (now table) / slotSize) × (map ≡ getD (now table) (place * slotSize) 0) ⌝ }
-    ensures { λ r. ⌜ r ≡ sameBytes (getD (slots (now (table .entry))) place []) (now (form .entry)) ⌝ }
+// Its lowest byte is zero where one of theirs is.
+fn meet(a: u64, b: u64) -> u64
+    ensures { λ r. ⌜ (lowByte a ≡ 0 → lowByte r ≡ 0) × (lowByte b ≡ 0 → lowByte r ≡ 0) ⌝ }
 {
-    let from = place * SLOT_SIZE;
-    let front = word(map, table[from + 1], 0, 0);
-    let back = word_from(table, from + 2);
-    let head = word(form[0], form[1], 0, 0);
-    let tail = word(form[2], form[3], form[4], form[5]);
-    differ(front, head, back, tail) == 0
+    a & b
 }
 
-// Where to look next: at the slots from `place` up to `stop` one by one.
-struct Window {
-    place: usize,
-    stop: usize,
-}
-
-// The same window while it has slots, else the next four slots of which one may be a candidate.
-fn next_window(table: &[u8], form: &[u8; SLOT_SIZE], w: Window) -> Window
-    requires { ⌜ (length (now form) ≡ slotSize) × (w .place ≤ length (now table) / slotSize) ⌝ }
-    ensures { λ r. ⌜ (w .place ≤ r .place) × (r .place ≤ length (now (table .entry)) / slotSize) ×
-        (locateFrom (r .place) (drop (r .place) (slots (now (table .entry)))) (now (form .entry)) ≡
-        locateFrom (w .place) (drop (w .place) (slots (now (table .entry)))) (now (form .entry))) ⌝ }
+// Zero only where no slot of a block begins with `head`. Every word is looked at, the second of a slot too, since that is done for many
+// words in one step.
+fn hits(table: &[u8], at: usize, head: u32) -> u32
+    requires { ⌜ at + blockSize ≤ length (now table) ⌝ }
+    ensures { λ r. ⌜ (r ≡ 0 → NoneBegins (now (table .entry)) at head blockWords) ⌝ }
 {
-    if w.place < w.stop {
-        return w;
+    let mut hit: u32 = 0;
+    let mut i = 0;
+    while i < BLOCK_WORDS {
+        let k = at + i * WORD_SIZE;
+        hit = join(hit, same(word_from(table, k), head));
+        i += 1;
     }
-    let place = skip(table, form, w.place);
-    Window {
-        place,
-        stop: place + 4,
-    }
+    hit
 }
 
-fn locate_form(table: &[u8], form: &[u8; SLOT_SIZE]) -> Place
+// Its lowest byte is zero where a slot of a block is unused. Where all hold messages it is not: all maps share the order number's bit.
+fn shared(table: &[u8], at: usize) -> u64
+    requires { ⌜ at + blockSize ≤ length (now table) ⌝ }
+    ensures { λ r. ⌜ ((lowByte r ≡ 0 → ⊥) → AllUsed (now (table .entry)) at blockSlots) ⌝ }
+{
+    let mut bits: u64 = 0xFFFF_FFFF_FFFF_FFFF;
+    let mut i = 0;
+    while i < BLOCK_SLOTS {
+        let k = at + i * SLOT_SIZE;
+        bits = meet(bits, eight_from(table, k));
+        i += 1;
+    }
+    bits
+}
+
+// Whether a block begins at a place and can be passed: true only where all its slots are in use and none begins with `head`. Its last slot
+// is tested first: in a judged table it is unused where any of them is.
+fn is_passed(table: &[u8], place: usize, head: u32) -> bool
+    requires { ⌜ place ≤ length (now table) / slotSize ⌝ }
+    ensures { λ r. ⌜ (r ≡ true → Passed (now (table .entry)) place head) ⌝ }
+{
+    let at = place * SLOT_SIZE;
+    if place % BLOCK_SLOTS != 0 {
+        return false;
+    }
+    if table.len() - at < BLOCK_SIZE {
+        return false;
+    }
+    if table[at + LAST_SLOT] == 0 {
+        return false;
+    }
+    if shared(table, at) % BYTE == 0 {
+        return false;
+    }
+    hits(table, at, head) == 0
+}
+
+// The first slot with these eight bytes, else the first unused one, else none: past whole blocks where that can be, else slot by slot.
+fn locate_form(table: &[u8], form: &[u8]) -> Place
     requires { ⌜ length (now form) ≡ slotSize ⌝ }
     ensures { λ r. ⌜ r ≡ locate (now (table .entry)) (now (form .entry)) ⌝ }
 {
+    let head = word_from(form, 0);
+    let whole = eight_from(form, 0);
     let count = table.len() / SLOT_SIZE;
-    let mut left = Window { place: 0, stop: 0 };
-    while left.place < count {
-        let w = next_window(table, form, left);
-        let place = w.place;
-        if count <= place {
-            return Place::Full;
+    let mut place = 0;
+    while place < count {
+        if is_passed(table, place, head) {
+            place += BLOCK_SLOTS;
+            continue;
         }
-        let map = table[place * SLOT_SIZE];
-        if map == 0 {
+        let slot = eight_from(table, place * SLOT_SIZE);
+        if slot % BYTE == 0 {
             return Place::Free(place);
         }
-        if is_form(table, place, map, form) {
+        if slot == whole {
             return Place::At(place);
         }
-        left = Window {
-            place: place + 1,
-            stop: w.stop,
-        };
+        place += 1;
     }
     Place::Full
 }

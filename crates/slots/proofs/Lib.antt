@@ -1,7 +1,7 @@
 -- The proofs that belong to no one function.
 --     Zeros   many bytes tested for zero
---     Six     a slot byte by byte
+--     Eight   a slot byte by byte
 --     Copy    a form copied byte by byte
 pub mod Zeros
-pub mod Six
+pub mod Eight
 pub mod Copy

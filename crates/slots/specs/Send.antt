@@ -16,18 +16,20 @@ use Rattle.slots.specs.declared.Place.{Place}
 use Rattle.slots.specs.declared.Place.the-variants.{At, Free, Full}
 use Rattle.slots.specs.Table.{sameBytes}
 
+-- whether two messages are equal: their slots are
 unfoldable pub sameMessage : Plan → Message → Message → Bool
 sameMessage p m m′ = sameBytes (slotOf p m) (slotOf p m′)
 
--- of these messages, counted from `place`, in a table of `room` slots
+-- where an equal message stands among these, counted from `place`, else the first unused slot of `room`, else none
 unfoldable pub placeFrom : Plan → ℕ → ℕ → List Message → Message → Place
 placeFrom p place room [] m = cond (ltb place room) (Free place) Full
 placeFrom p place room (x ∷ ms) m = cond (sameMessage p x m) (At place) (placeFrom p (suc place) room ms m)
 
+-- of all messages of a table of `room` slots
 unfoldable pub placeIn : Plan → ℕ → List Message → Message → Place
 placeIn p room ms m = placeFrom p 0 room ms m
 
--- row 8: past the last message a slot is unused
+-- the message in the slot at a place; row 8: past the last one it is unused
 unfoldable pub messageAt : List Message → ℕ → Outcome Message
 messageAt [] place = refused 8
 messageAt (m ∷ ms) zero = accepted m

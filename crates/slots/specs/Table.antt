@@ -1,4 +1,4 @@
--- Slot tables: N, or one inbox (document 01, "The plan and four tables"; rows 2, 5 and 6 of "Refusals by place").
+-- Slot tables: N, or one inbox (document 01, "The plan and four tables"; rows 2, 5 and 6 of "Refusals by place"; document 02, Paper 1: slots of 8 bytes).
 --     maxSlots, isTableLength    how many bytes a table may have
 --     slots                      a table's slots, in order
 --     isZero, readSlot           what one slot holds: nothing, a message followed by zeros, or neither
@@ -6,11 +6,14 @@
 --     messages                   the messages in a table, in order
 --     tableOf                    the table of so many slots that holds these messages
 --     sameBytes, storeAt         whether two slots are the same; a slot's bytes replaced
--- Its laws are in Table/Laws.antt, and what a judged table holds in Table/Holds.antt; Table/Scan.antt is how the code looks at bytes.
+-- Its laws are in Table/Laws.antt, and what a judged table holds in Table/Holds.antt; Table/Foreign.antt is another order's message;
+-- Table/Scan.antt is how the code looks at bytes, Table/Words.antt at many of them together.
 -- Assumes nothing.
 pub mod Scan
+pub mod Words
 pub mod Laws
 pub mod Holds
+pub mod Foreign
 use Prim.Native.Nat.{ℕ, zero, suc, _+_, _*_, _-_, _/_, _%_}
 use mathlib.Core.Bool.{Bool, true, false, _&&_, cond}
 use mathlib.Core.List.{List, [], _∷_, _++_, map}
@@ -27,10 +30,11 @@ use Rattle.slots.specs.All.{all}
 abbrev pub slotSize : ℕ
 slotSize = Form.slotSize
 
+-- the most slots that a table may have
 abbrev pub maxSlots : ℕ
 maxSlots = 1024
 
--- whole slots, at most 1,024
+-- whole slots, and not too many
 unfoldable pub isTableLength : ℕ → Bool
 isTableLength len = eqb (len % slotSize) 0 && leb (len / slotSize) maxSlots
 
@@ -65,9 +69,11 @@ readSlot p s =
     cond (isZero s) Unused
     (usedSlot (readMessage p (take (Form.mapLength (getD s 0 0)) s)) (isZero (drop (Form.mapLength (getD s 0 0)) s)))
 
+-- what the slots of a table hold
 unfoldable pub readTable : Plan → List ℕ → List Slot
 readTable p t = map (readSlot p) (slots t)
 
+-- unused slots alone
 unfoldable pub allUnused : List Slot → Bool
 allUnused [] = true
 allUnused (Unused ∷ rest) = allUnused rest
@@ -92,9 +98,11 @@ usedMessages (Unused ∷ rest) = usedMessages rest
 usedMessages (Used m ∷ rest) = m ∷ usedMessages rest
 usedMessages (Bad ∷ rest) = usedMessages rest
 
+-- the messages that a table holds, in order
 unfoldable pub messages : Plan → List ℕ → List Message
 messages p t = usedMessages (readTable p t)
 
+-- slots one after the other
 unfoldable pub joinSlots : List (List ℕ) → List ℕ
 joinSlots [] = []
 joinSlots (s ∷ ss) = s ++ joinSlots ss

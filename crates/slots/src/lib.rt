@@ -5,6 +5,7 @@
 //     Place, store_message             where a message stands or may be appended, and putting it there
 //     Store, Send, apply_store         what sending a message comes to, decided before anything is stored, and storing it
 //     set_byte                         a byte of a table
+//     word                             four bytes as one number
 //
 // Looking for a message is the crate `search`, judging whole tables the crate `tables`.
 // What each of them means stands in specs/. No public function has a `requires`, and none looks past its table.
@@ -15,6 +16,7 @@ ghost use Rattle.message.specs.Form.{slotOf};
 ghost use Rattle.message.specs.Codec.{readOutcome};
 ghost use Rattle.slots.specs.Table.Scan.{readUsed, readAt};
 ghost use Rattle.slots.specs.View.{storeBytes};
+ghost use Rattle.slots.specs.Table.Words.{Word};
 use message::Message;
 use message::Plan;
 use message::Read;
@@ -123,4 +125,11 @@ pub fn set_byte(table: &mut [u8], at: usize, byte: u8)
     if at < table.len() {
         table[at] = byte;
     }
+}
+
+// Four bytes as one number, the first of them the lowest, so that they are compared in one step.
+pub fn word(b0: u8, b1: u8, b2: u8, b3: u8) -> u32
+    ensures { λ r. ⌜ Word b0 b1 b2 b3 r ⌝ }
+{
+    b0 as u32 + b1 as u32 * 0x100 + b2 as u32 * 0x1_0000 + b3 as u32 * 0x100_0000
 }

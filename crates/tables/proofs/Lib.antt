@@ -1,5 +1,11 @@
 -- The proofs that belong to no one function.
---     Forms   a slot judged by bounds
---     Parts   judging part by part
+--     Within    a byte beside its bounds
+--     Rows      the rows of a plan's bounds
+--     Forms     a slot judged by bounds
+--     Seen      what the slots passed so far have shown
+--     Parts     judging part by part
+pub mod Within
+pub mod Rows
 pub mod Forms
+pub mod Seen
 pub mod Parts

@@ -6,7 +6,7 @@ use std::fs::{self, File};
 use std::io::{self, BufRead, Write};
 
 /// The order's plan, the same at all its hosts.
-const PLAN: Plan = Plan { rms: 2, acceptors: 3, leaders: 1 };
+const PLAN: Plan = Plan { rms: 2, acceptors: 3, leaders: 1, order: 0x0102 };
 
 #[derive(Clone)]
 struct Tables {

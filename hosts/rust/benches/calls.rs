@@ -1,4 +1,4 @@
-//! The linked calls beside the hand-written Rust of document 01, in one run. It prints Markdown tables of ratios,
+//! The linked calls beside the hand-written Rust of documents 01 and 02, in one run. It prints Markdown tables of ratios,
 //! linked time / Rust time.
 //!
 //!     cargo bench --bench calls
@@ -11,36 +11,36 @@
 #[path = "../tests/reference/mod.rs"]
 mod reference;
 
-use paxos_commit::{Answer, Event, Fields, Plan, Refusal};
+use paxos_commit::{Answer, Event, Fields, Plan, Refusal, SLOT};
 use std::cell::RefCell;
 use std::hint::black_box;
 use std::time::{Duration, Instant};
 
-const PLAN: Plan = Plan { rms: 16, acceptors: 7, leaders: 4 };
-const REFERENCE_PLAN: reference::Plan = reference::Plan { rms: 16, acceptors: 7, leaders: 4 };
+const PLAN: Plan = Plan { rms: 16, acceptors: 7, leaders: 4, order: 0x0102 };
+const REFERENCE_PLAN: reference::Plan = reference::Plan { rms: 16, acceptors: 7, leaders: 4, order: 0x0102 };
 const SLOTS: usize = 1024;
 const BATCHES: usize = 1000;
 const CALLS: usize = 16;
 
-type Message = [u8; 6];
+type Message = [u8; SLOT];
 
 fn message_1a(ins: u8, bal: u8) -> Message {
-    [0x09, ins, bal, 0, 0, 0]
+    [0x29, ins, bal, 1, 2, 0, 0, 0]
 }
 fn message_1b(ins: u8, acc: u8, mbal: u8) -> Message {
-    [0x07, ins, acc, mbal, 0, 0]
+    [0x27, ins, acc, mbal, 1, 2, 0, 0]
 }
 fn message_1b_vote(ins: u8, acc: u8, mbal: u8, bal: u8, val: u8) -> Message {
-    [0x1F, ins, acc, mbal, bal, val]
+    [0x3F, ins, acc, mbal, bal, val, 1, 2]
 }
 fn message_2a(ins: u8, bal: u8, val: u8) -> Message {
-    [0x19, ins, bal, val, 0, 0]
+    [0x39, ins, bal, val, 1, 2, 0, 0]
 }
 fn message_2b(ins: u8, acc: u8, bal: u8, val: u8) -> Message {
-    [0x1B, ins, acc, bal, val, 0]
+    [0x3B, ins, acc, bal, val, 1, 2, 0]
 }
 fn decision(val: u8) -> Message {
-    [0x10, val, 0, 0, 0, 0]
+    [0x30, val, 1, 2, 0, 0, 0, 0]
 }
 
 struct Random(u64);
@@ -84,7 +84,7 @@ impl Tables {
         Tables {
             states: vec![0; PLAN.states_len()],
             votes: vec![0; PLAN.votes_len()],
-            network: vec![0; 6 * SLOTS],
+            network: vec![0; SLOT * SLOTS],
             inboxes: vec![0; PLAN.inboxes_len(SLOTS)],
         }
     }
@@ -217,7 +217,7 @@ fn fill(random: &mut Random, row: &mut [u8], first: &[Message], used: usize, las
             list.swap(at, end);
         }
     }
-    for (slot, message) in row.chunks_exact_mut(6).zip(list) {
+    for (slot, message) in row.chunks_exact_mut(SLOT).zip(list) {
         slot.copy_from_slice(&message);
     }
 }
@@ -256,7 +256,7 @@ fn tables(kind: &Kind, level: Level) -> Tables {
 
 /// Which call, and on which engine.
 fn linked(own: bool, tables: &mut Tables, event: &[u8; 4]) -> Result<Answer, Refusal> {
-    let plan = black_box(PLAN);
+    let plan = *black_box(&PLAN);
     let event = black_box(&event[..]);
     match (own, event[0]) {
         (false, _) => paxos_commit::step(
@@ -270,14 +270,15 @@ fn linked(own: bool, tables: &mut Tables, event: &[u8; 4]) -> Result<Answer, Ref
         (true, 0..=2) => paxos_commit::rm_step(plan, &mut tables.states, &mut tables.network, event),
         (true, 3) => paxos_commit::acceptor_step(plan, &mut tables.votes, &mut tables.network, event),
         (true, _) => {
-            let inbox = 6 * SLOTS * usize::from(event[1]);
-            paxos_commit::leader_step(plan, &mut tables.inboxes[inbox..inbox + 6 * SLOTS], &mut tables.network, event)
+            let inbox = SLOT * SLOTS * usize::from(event[1]);
+            let inbox = &mut tables.inboxes[inbox..inbox + SLOT * SLOTS];
+            paxos_commit::leader_step(plan, inbox, &mut tables.network, event)
         }
     }
 }
 
 fn by_hand(own: bool, tables: &mut Tables, event: &[u8; 4]) -> Result<reference::Sent, u8> {
-    let plan = black_box(REFERENCE_PLAN);
+    let plan = *black_box(&REFERENCE_PLAN);
     let event = black_box(&event[..]);
     match (own, event[0]) {
         (false, _) => reference::event(
@@ -291,8 +292,9 @@ fn by_hand(own: bool, tables: &mut Tables, event: &[u8; 4]) -> Result<reference:
         (true, 0..=2) => reference::rm_step(plan, &mut tables.states, &mut tables.network, event),
         (true, 3) => reference::acceptor_step(plan, &mut tables.votes, &mut tables.network, event),
         (true, _) => {
-            let inbox = 6 * SLOTS * usize::from(event[1]);
-            reference::leader_step(plan, &mut tables.inboxes[inbox..inbox + 6 * SLOTS], &mut tables.network, event)
+            let inbox = SLOT * SLOTS * usize::from(event[1]);
+            let inbox = &mut tables.inboxes[inbox..inbox + SLOT * SLOTS];
+            reference::leader_step(plan, inbox, &mut tables.network, event)
         }
     }
 }
@@ -304,7 +306,7 @@ fn read_by_hand(plan: reference::Plan, bytes: &[u8]) -> Result<reference::Messag
 }
 
 #[inline(never)]
-fn write_by_hand(plan: reference::Plan, message: reference::Message) -> (u8, [u8; 6], usize) {
+fn write_by_hand(plan: reference::Plan, message: reference::Message) -> (u8, Message, usize) {
     reference::write(plan, message)
 }
 
@@ -412,8 +414,9 @@ fn time_plain<A, B>(mut linked: impl FnMut() -> A, mut by_hand: impl FnMut() -> 
 /// The rehearsal by the linked event call, as the reference's `rehearse_by_calls` does it.
 fn rehearse(input: &[u8]) -> String {
     let mut record = match input {
-        &[rms, acceptors, leaders, ..] => {
-            match paxos_commit::Record::fresh(Plan { rms, acceptors, leaders }, SLOTS, SLOTS) {
+        &[rms, acceptors, leaders, high, low, ..] => {
+            let order = u16::from_be_bytes([high, low]);
+            match paxos_commit::Record::fresh(Plan { rms, acceptors, leaders, order }, SLOTS, SLOTS) {
                 Ok(record) => record,
                 Err(_) => return "1\n".into(),
             }
@@ -421,7 +424,7 @@ fn rehearse(input: &[u8]) -> String {
         _ => return "1\n".into(),
     };
     let mut out = String::with_capacity(3 * input.len() / 4 + 16);
-    for event in input[3..].chunks(4).take(8192) {
+    for event in input[5..].chunks(4).take(8192) {
         let number = record.step_bytes(event).err().map_or(0, Refusal::number);
         if number >= 10 {
             out.push('1');
@@ -440,12 +443,13 @@ fn rehearse(input: &[u8]) -> String {
 /// 8,192 events, mixed ones or only those that are accepted.
 fn events(accepted: bool) -> Vec<u8> {
     let mut random = Random(7);
-    let mut input = vec![PLAN.rms, PLAN.acceptors, PLAN.leaders];
+    let [high, low] = PLAN.order.to_be_bytes();
+    let mut input = vec![PLAN.rms, PLAN.acceptors, PLAN.leaders, high, low];
     let mut tables = Tables::fresh();
-    while input.len() < 3 + 4 * 8192 {
+    while input.len() < 5 + 4 * 8192 {
         let kind = random.byte(9);
         let who = random.byte([16, 16, 16, 7, 4, 4, 4, 4, 4][usize::from(kind)]);
-        let used = tables.network.chunks_exact(6).take_while(|slot| slot[0] != 0).count();
+        let used = tables.network.chunks_exact(SLOT).take_while(|slot| slot[0] != 0).count();
         let [high, low] = match kind {
             2..=4 if accepted => (random.below(used + 1) as u16).to_be_bytes(),
             2..=4 => [random.byte(4), random.byte(256)],
@@ -518,27 +522,32 @@ impl Report {
     /// A delivery of a 2b to an N that is used so far, and of what is no message.
     fn deliveries(&mut self) {
         let vote = message_2b(3, 2, 0, 1);
+        let mut other = vote;
+        other[6] = 3;
         for (name, used, last, damaged, bytes) in [
-            ("deliver a 2b, N fresh", 0, None, false, &vote[..5]),
-            ("deliver a 2b, N half used", SLOTS / 2, None, false, &vote[..5]),
-            ("deliver a 2b into slot 1023, the last unused", SLOTS - 1, None, false, &vote[..5]),
-            ("deliver a 2b that stands in slot 511, N half used", SLOTS / 2, Some(vote), false, &vote[..5]),
-            ("deliver a 2b that stands in slot 1023, N full", SLOTS, Some(vote), false, &vote[..5]),
-            ("deliver a 2b, N full (13)", SLOTS, None, false, &vote[..5]),
-            ("deliver a 2b, last byte of N damaged (5)", SLOTS / 2, None, true, &vote[..5]),
-            ("deliver a cut 2b, N fresh (16)", 0, None, false, &vote[..4]),
-            ("deliver a cut 2b, N half used (16)", SLOTS / 2, None, false, &vote[..4]),
+            ("deliver a 2b, N fresh", 0, None, false, &vote[..7]),
+            ("deliver a 2b, N half used", SLOTS / 2, None, false, &vote[..7]),
+            ("deliver a 2b into slot 1023, the last unused", SLOTS - 1, None, false, &vote[..7]),
+            ("deliver a 2b that stands in slot 511, N half used", SLOTS / 2, Some(vote), false, &vote[..7]),
+            ("deliver a 2b that stands in slot 1023, N full", SLOTS, Some(vote), false, &vote[..7]),
+            ("deliver a 2b, N full (13)", SLOTS, None, false, &vote[..7]),
+            ("deliver a 2b, last byte of N damaged (5)", SLOTS / 2, None, true, &vote[..7]),
+            ("deliver a cut 2b, N fresh (16)", 0, None, false, &vote[..6]),
+            ("deliver a cut 2b, N half used (16)", SLOTS / 2, None, false, &vote[..6]),
+            ("deliver a 2b of another order, N fresh (18)", 0, None, false, &other[..7]),
+            ("deliver a 2b of another order, N half used (18)", SLOTS / 2, None, false, &other[..7]),
         ] {
             let mut old = Tables::fresh();
             fill(&mut Random(0x9E37_79B9_7F4A_7C15), &mut old.network, &[], used, last, false);
             if damaged {
-                old.network[6 * SLOTS - 1] = 1;
+                old.network[SLOT * SLOTS - 1] = 1;
             }
             let linked = |tables: &mut Tables| {
-                paxos_commit::deliver(black_box(PLAN), &mut tables.network, black_box(bytes)).map(usize::from)
+                paxos_commit::deliver(*black_box(&PLAN), &mut tables.network, black_box(bytes)).map(usize::from)
             };
-            let by_hand =
-                |tables: &mut Tables| deliver_by_hand(black_box(REFERENCE_PLAN), &mut tables.network, black_box(bytes));
+            let by_hand = |tables: &mut Tables| {
+                deliver_by_hand(*black_box(&REFERENCE_PLAN), &mut tables.network, black_box(bytes))
+            };
             let (mut first, mut second) = (old.clone(), old.clone());
             assert_eq!(linked(&mut first).map_err(Refusal::number), by_hand(&mut second), "{name}");
             assert!(first == second, "{name}: tables differ");
@@ -562,8 +571,8 @@ impl Report {
             let said = paxos_commit::ending(PLAN, &states).map(|ending| ending as usize).map_err(Refusal::number);
             assert_eq!(said, reference::ending(REFERENCE_PLAN, &states).map(|ending| ending as usize), "{name}");
             let times = time_plain(
-                || paxos_commit::ending(black_box(PLAN), black_box(&states)),
-                || ending_by_hand(black_box(REFERENCE_PLAN), black_box(&states)),
+                || paxos_commit::ending(*black_box(&PLAN), black_box(&states)),
+                || ending_by_hand(*black_box(&REFERENCE_PLAN), black_box(&states)),
             );
             self.line(name, 1.0, 1, times);
         }
@@ -571,37 +580,38 @@ impl Report {
 
     fn others(&mut self) {
         println!("### The other calls\n\n| call | ratio | linked, ns | Rust, ns |\n|---|---|---|---|");
-        let messages: [(&str, Vec<u8>); 9] = [
-            ("read a 1a", vec![0x09, 3, 9]),
-            ("read a 1b", vec![0x07, 3, 2, 9]),
-            ("read a 1b with a vote", vec![0x1F, 3, 2, 9, 4, 1]),
-            ("read a 2a", vec![0x19, 3, 9, 1]),
-            ("read a 2b", vec![0x1B, 3, 2, 9, 1]),
-            ("read a decision", vec![0x10, 2]),
-            ("read an unknown map (15)", vec![0x12, 3, 2]),
-            ("read a cut 2b (16)", vec![0x1B, 3, 2, 9]),
-            ("read a value 3 (17)", vec![0x1B, 3, 2, 9, 3]),
+        let messages: [(&str, Vec<u8>); 10] = [
+            ("read a 1a", vec![0x29, 3, 9, 1, 2]),
+            ("read a 1b", vec![0x27, 3, 2, 9, 1, 2]),
+            ("read a 1b with a vote", vec![0x3F, 3, 2, 9, 4, 1, 1, 2]),
+            ("read a 2a", vec![0x39, 3, 9, 1, 1, 2]),
+            ("read a 2b", vec![0x3B, 3, 2, 9, 1, 1, 2]),
+            ("read a decision", vec![0x30, 2, 1, 2]),
+            ("read an unknown map (15)", vec![0x32, 3, 2, 1, 2]),
+            ("read a cut 2b (16)", vec![0x3B, 3, 2, 9, 1, 1]),
+            ("read a value 3 (17)", vec![0x3B, 3, 2, 9, 3, 1, 2]),
+            ("read a 2b of another order (18)", vec![0x3B, 3, 2, 9, 1, 1, 3]),
         ];
         for (name, bytes) in &messages {
             let times = time_plain(
-                || Fields::read(black_box(PLAN), black_box(bytes)),
-                || read_by_hand(black_box(REFERENCE_PLAN), black_box(bytes)),
+                || Fields::read(*black_box(&PLAN), black_box(bytes)),
+                || read_by_hand(*black_box(&REFERENCE_PLAN), black_box(bytes)),
             );
             self.line(name, 1.0, 1, times);
         }
-        let fields = Fields { map: 0x1F, ins: 3, acc: 2, mbal: 9, bal: 4, val: 1 };
+        let fields = Fields { map: 0x3F, ins: 3, acc: 2, mbal: 9, bal: 4, val: 1 };
         let vote = reference::Vote { bal: 4, val: 1 };
         let message = reference::Message::Phase1b { ins: 3, acc: 2, mbal: 9, vote: Some(vote) };
         let times = time_plain(
-            || black_box(fields).write(black_box(PLAN)),
-            || write_by_hand(black_box(REFERENCE_PLAN), black_box(message)),
+            || (*black_box(&fields)).write(*black_box(&PLAN)),
+            || write_by_hand(*black_box(&REFERENCE_PLAN), *black_box(&message)),
         );
         self.line("write a 1b with a vote", 1.0, 1, times);
-        let fields = Fields { map: 0x19, ins: 3, bal: 9, val: 1, ..Fields::default() };
+        let fields = Fields { map: 0x39, ins: 3, bal: 9, val: 1, ..Fields::default() };
         let message = reference::Message::Phase2a { ins: 3, bal: 9, val: 1 };
         let times = time_plain(
-            || black_box(fields).write(black_box(PLAN)),
-            || write_by_hand(black_box(REFERENCE_PLAN), black_box(message)),
+            || (*black_box(&fields)).write(*black_box(&PLAN)),
+            || write_by_hand(*black_box(&REFERENCE_PLAN), *black_box(&message)),
         );
         self.line("write a 2a", 1.0, 1, times);
         self.deliveries();
@@ -610,9 +620,9 @@ impl Report {
         let times = time_plain(
             || {
                 let Tables { states, votes, network, inboxes } = &mut *tables.borrow_mut();
-                paxos_commit::open(black_box(PLAN), states, votes, network, inboxes)
+                paxos_commit::open(*black_box(&PLAN), states, votes, network, inboxes)
             },
-            || open_by_hand(black_box(REFERENCE_PLAN), &mut tables.borrow_mut()),
+            || open_by_hand(*black_box(&REFERENCE_PLAN), &mut tables.borrow_mut()),
         );
         self.line("open, largest tables", 1.0, 0, times);
         self.endings();

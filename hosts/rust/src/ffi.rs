@@ -17,17 +17,18 @@
 use crate::plan::Plan;
 
 #[cfg(any(feature = "rm", feature = "acceptor", feature = "leader"))]
-type RoleStep = unsafe extern "C" fn(u8, u8, u8, *mut u8, usize, *mut u8, usize, *const u8, usize) -> u32;
+type RoleStep = unsafe extern "C" fn(u8, u8, u8, u16, *mut u8, usize, *mut u8, usize, *const u8, usize) -> u32;
 
 unsafe extern "C" {
     #[cfg(feature = "message")]
-    fn paxos_commit_read(rms: u8, acceptors: u8, leaders: u8, bytes: *const u8, len: usize) -> u64;
+    fn paxos_commit_read(rms: u8, acceptors: u8, leaders: u8, order: u16, bytes: *const u8, len: usize) -> u64;
 
     #[cfg(feature = "message")]
     fn paxos_commit_write(
         rms: u8,
         acceptors: u8,
         leaders: u8,
+        order: u16,
         map: u8,
         ins: u8,
         acc: u8,
@@ -36,11 +37,15 @@ unsafe extern "C" {
         val: u8,
     ) -> u64;
 
+    #[cfg(feature = "message")]
+    fn paxos_commit_length(map: u8) -> u32;
+
     #[cfg(feature = "deliver")]
     fn paxos_commit_deliver(
         rms: u8,
         acceptors: u8,
         leaders: u8,
+        order: u16,
         network: *mut u8,
         network_len: usize,
         bytes: *const u8,
@@ -52,6 +57,7 @@ unsafe extern "C" {
         rms: u8,
         acceptors: u8,
         leaders: u8,
+        order: u16,
         states: *mut u8,
         states_len: usize,
         network: *mut u8,
@@ -65,6 +71,7 @@ unsafe extern "C" {
         rms: u8,
         acceptors: u8,
         leaders: u8,
+        order: u16,
         votes: *mut u8,
         votes_len: usize,
         network: *mut u8,
@@ -78,6 +85,7 @@ unsafe extern "C" {
         rms: u8,
         acceptors: u8,
         leaders: u8,
+        order: u16,
         inbox: *mut u8,
         inbox_len: usize,
         network: *mut u8,
@@ -91,6 +99,7 @@ unsafe extern "C" {
         rms: u8,
         acceptors: u8,
         leaders: u8,
+        order: u16,
         states: *mut u8,
         states_len: usize,
         votes: *mut u8,
@@ -106,6 +115,7 @@ unsafe extern "C" {
         rms: u8,
         acceptors: u8,
         leaders: u8,
+        order: u16,
         states: *mut u8,
         states_len: usize,
         votes: *mut u8,
@@ -119,14 +129,21 @@ unsafe extern "C" {
     ) -> u32;
 
     #[cfg(feature = "record")]
-    fn paxos_commit_ending(rms: u8, acceptors: u8, leaders: u8, states: *const u8, states_len: usize) -> u32;
+    fn paxos_commit_ending(
+        rms: u8,
+        acceptors: u8,
+        leaders: u8,
+        order: u16,
+        states: *const u8,
+        states_len: usize,
+    ) -> u32;
 }
 
 #[cfg(feature = "message")]
 #[inline]
 pub fn read(plan: Plan, bytes: &[u8]) -> u64 {
     // SAFETY: `bytes` is a slice.
-    unsafe { paxos_commit_read(plan.rms, plan.acceptors, plan.leaders, bytes.as_ptr(), bytes.len()) }
+    unsafe { paxos_commit_read(plan.rms, plan.acceptors, plan.leaders, plan.order, bytes.as_ptr(), bytes.len()) }
 }
 
 #[cfg(feature = "message")]
@@ -134,7 +151,15 @@ pub fn read(plan: Plan, bytes: &[u8]) -> u64 {
 pub fn write(plan: Plan, fields: [u8; 6]) -> [u8; 8] {
     let [map, ins, acc, mbal, bal, val] = fields;
     // SAFETY: numbers only.
-    unsafe { paxos_commit_write(plan.rms, plan.acceptors, plan.leaders, map, ins, acc, mbal, bal, val) }.to_le_bytes()
+    unsafe { paxos_commit_write(plan.rms, plan.acceptors, plan.leaders, plan.order, map, ins, acc, mbal, bal, val) }
+        .to_le_bytes()
+}
+
+#[cfg(feature = "message")]
+#[inline]
+pub fn length(map: u8) -> u32 {
+    // SAFETY: a number only.
+    unsafe { paxos_commit_length(map) }
 }
 
 #[cfg(feature = "deliver")]
@@ -146,6 +171,7 @@ pub fn deliver(plan: Plan, network: &mut [u8], bytes: &[u8]) -> u32 {
             plan.rms,
             plan.acceptors,
             plan.leaders,
+            plan.order,
             network.as_mut_ptr(),
             network.len(),
             bytes.as_ptr(),
@@ -164,6 +190,7 @@ fn role_step(call: RoleStep, plan: Plan, table: &mut [u8], network: &mut [u8], e
             plan.rms,
             plan.acceptors,
             plan.leaders,
+            plan.order,
             table.as_mut_ptr(),
             table.len(),
             network.as_mut_ptr(),
@@ -201,6 +228,7 @@ pub fn open(plan: Plan, states: &mut [u8], votes: &mut [u8], network: &mut [u8],
             plan.rms,
             plan.acceptors,
             plan.leaders,
+            plan.order,
             states.as_mut_ptr(),
             states.len(),
             votes.as_mut_ptr(),
@@ -229,6 +257,7 @@ pub fn step(
             plan.rms,
             plan.acceptors,
             plan.leaders,
+            plan.order,
             states.as_mut_ptr(),
             states.len(),
             votes.as_mut_ptr(),
@@ -247,5 +276,5 @@ pub fn step(
 #[inline]
 pub fn ending(plan: Plan, states: &[u8]) -> u32 {
     // SAFETY: `states` is a slice.
-    unsafe { paxos_commit_ending(plan.rms, plan.acceptors, plan.leaders, states.as_ptr(), states.len()) }
+    unsafe { paxos_commit_ending(plan.rms, plan.acceptors, plan.leaders, plan.order, states.as_ptr(), states.len()) }
 }

@@ -1,12 +1,13 @@
 //! Safe calls of the proved Paxos Commit record.
 //!
-//! The calls are written in Rattle and proved to answer and store exactly what document 01 says. They stand in static
-//! libraries; this crate links them, gives them Rust types, and adds nothing to what they decide. Tables, events and
-//! messages are any bytes of any length: a call accepts, or answers one [`Refusal`] and changes no byte.
+//! The calls are written in Rattle and proved to answer and store exactly what document 01 says, with the order number
+//! of document 02, Paper 1. They stand in static libraries; this crate links them, gives them Rust types, and adds nothing
+//! to what they decide. Tables, events and messages are any bytes of any length: a call accepts, or answers one
+//! [`Refusal`] and changes no byte.
 //!
 //! | Feature | Static library | Calls |
 //! |---|---|---|
-//! | `message` | `libhost_message.a` | [`Message::read`], [`Message::write`], [`Fields::write`] |
+//! | `message` | `libhost_message.a` | [`Message::read`], [`Message::write`], [`Message::length`], [`Fields::write`] |
 //! | `deliver` | `libhost_deliver.a` | [`deliver`] |
 //! | `rm` | `libhost_rm.a` | [`rm_step`] |
 //! | `acceptor` | `libhost_acceptor.a` | [`acceptor_step`] |
@@ -21,7 +22,7 @@
 //! ```
 //! use paxos_commit::{Answer, Ending, Event, Plan, Record, Refusal};
 //!
-//! let plan = Plan { rms: 1, acceptors: 1, leaders: 1 };
+//! let plan = Plan { rms: 1, acceptors: 1, leaders: 1, order: 0 };
 //! let mut record = Record::fresh(plan, 1024, 1024)?;
 //! assert_eq!(record.step(Event::Prepare { rm: 0 }), Ok(Answer::Slot(0)));
 //! assert_eq!(record.step(Event::Vote { acceptor: 0, slot: 0 }), Ok(Answer::Slot(1)));

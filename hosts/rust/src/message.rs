@@ -4,7 +4,6 @@
 use crate::answer::outside;
 #[cfg(any(feature = "message", feature = "deliver"))]
 use crate::answer::refused;
-#[cfg(feature = "message")]
 use crate::plan::SLOT;
 #[cfg(any(feature = "message", feature = "deliver"))]
 use crate::{Plan, Refusal, ffi};
@@ -64,8 +63,8 @@ pub enum Message {
 #[derive(Clone, Copy, Debug, Default, PartialEq, Eq, Hash)]
 #[repr(align(2))]
 pub struct Fields {
-    /// The bit map: 09 (1a), 07 (1b without a vote), 1F (1b with a vote), 19 (2a), 1B (2b) or 10 (decision),
-    /// hexadecimal.
+    /// The bit map: 29 (1a), 27 (1b without a vote), 3F (1b with a vote), 39 (2a), 3B (2b) or 30 (decision),
+    /// hexadecimal. Bit 5, for the order number, always stands; the number itself is the plan's.
     pub map: u8,
     /// The instance, bit 0 of the map.
     pub ins: u8,
@@ -79,32 +78,44 @@ pub struct Fields {
     pub val: u8,
 }
 
+/// The six bit maps.
+mod map {
+    pub const PHASE_1A: u8 = 0x29;
+    pub const PHASE_1B: u8 = 0x27;
+    pub const PHASE_1B_VOTE: u8 = 0x3F;
+    pub const PHASE_2A: u8 = 0x39;
+    pub const PHASE_2B: u8 = 0x3B;
+    pub const DECISION: u8 = 0x30;
+}
+
 impl From<Message> for Fields {
     fn from(message: Message) -> Fields {
         let none = Fields::default();
         match message {
-            Message::Phase1a { ins, bal } => Fields { map: 0x09, ins, bal, ..none },
-            Message::Phase1b { ins, acc, mbal, vote: None } => Fields { map: 0x07, ins, acc, mbal, ..none },
+            Message::Phase1a { ins, bal } => Fields { map: map::PHASE_1A, ins, bal, ..none },
+            Message::Phase1b { ins, acc, mbal, vote: None } => Fields { map: map::PHASE_1B, ins, acc, mbal, ..none },
             Message::Phase1b { ins, acc, mbal, vote: Some(Vote { bal, val }) } => {
-                Fields { map: 0x1F, ins, acc, mbal, bal, val: val as u8 }
+                Fields { map: map::PHASE_1B_VOTE, ins, acc, mbal, bal, val: val as u8 }
             }
-            Message::Phase2a { ins, bal, val } => Fields { map: 0x19, ins, bal, val: val as u8, ..none },
-            Message::Phase2b { ins, acc, bal, val } => Fields { map: 0x1B, ins, acc, bal, val: val as u8, ..none },
-            Message::Decision { val } => Fields { map: 0x10, val: val as u8, ..none },
+            Message::Phase2a { ins, bal, val } => Fields { map: map::PHASE_2A, ins, bal, val: val as u8, ..none },
+            Message::Phase2b { ins, acc, bal, val } => {
+                Fields { map: map::PHASE_2B, ins, acc, bal, val: val as u8, ..none }
+            }
+            Message::Decision { val } => Fields { map: map::DECISION, val: val as u8, ..none },
         }
     }
 }
 
-/// The byte form of a message. It derefs to the message's bytes, two to six; as a slot it is followed by zeros.
+/// The byte form of a message. It derefs to the message's bytes, four to eight; as a slot it is followed by zeros.
 #[derive(Clone, Copy, Debug, PartialEq, Eq, Hash)]
 pub struct Written {
-    slot: [u8; 6],
+    slot: [u8; SLOT],
     len: u8,
 }
 
 impl Written {
-    /// Six bytes: the message, then zeros, as it stands in a table.
-    pub const fn slot(self) -> [u8; 6] {
+    /// Eight bytes: the message, then zeros, as it stands in a table.
+    pub const fn slot(self) -> [u8; SLOT] {
         self.slot
     }
 }
@@ -125,7 +136,8 @@ impl AsRef<[u8]> for Written {
 #[cfg(feature = "message")]
 impl Fields {
     /// The proved reader, with raw fields. It refuses [`Refusal::BadPlan`], [`UnknownMap`](Refusal::UnknownMap),
-    /// [`WrongLength`](Refusal::WrongLength) and [`OutOfRange`](Refusal::OutOfRange).
+    /// [`WrongLength`](Refusal::WrongLength), [`OutOfRange`](Refusal::OutOfRange) and
+    /// [`OtherOrder`](Refusal::OtherOrder).
     #[inline]
     pub fn read(plan: Plan, bytes: &[u8]) -> Result<Fields, Refusal> {
         let [number, map, ins, acc, mbal, bal, val, _] = ffi::read(plan, bytes).to_le_bytes();
@@ -141,8 +153,11 @@ impl Fields {
     pub fn write(self, plan: Plan) -> Result<Written, Refusal> {
         let Fields { map, ins, acc, mbal, bal, val } = self;
         match ffi::write(plan, [map, ins, acc, mbal, bal, val]) {
-            [0, len, slot @ ..] if len <= 6 => Ok(Written { slot, len }),
-            [number, ..] => Err(refused(number.into())),
+            [0, number, ..] => Err(refused(number.into())),
+            slot => match ffi::length(slot[0]) {
+                len @ 1..=8 => Ok(Written { slot, len: len as u8 }),
+                _ => outside(),
+            },
         }
     }
 }
@@ -154,11 +169,13 @@ impl Message {
     /// ```
     /// use paxos_commit::{Message, Plan, Refusal, Value};
     ///
-    /// let plan = Plan { rms: 1, acceptors: 1, leaders: 1 };
-    /// assert_eq!(Message::read(plan, &[0x19, 0, 0, 1]), Ok(Message::Phase2a { ins: 0, bal: 0, val: Value::Prepared }));
-    /// assert_eq!(Message::read(plan, &[0x07, 0, 0, 1]), Ok(Message::Phase1b { ins: 0, acc: 0, mbal: 1, vote: None }));
-    /// assert_eq!(Message::read(plan, &[0x19, 0, 0]), Err(Refusal::WrongLength));
-    /// assert_eq!(Message::read(plan, b"junk"), Err(Refusal::UnknownMap));
+    /// let plan = Plan { rms: 1, acceptors: 1, leaders: 1, order: 0x0102 };
+    /// let read = |bytes: &[u8]| Message::read(plan, bytes);
+    /// assert_eq!(read(&[0x39, 0, 0, 1, 1, 2]), Ok(Message::Phase2a { ins: 0, bal: 0, val: Value::Prepared }));
+    /// assert_eq!(read(&[0x27, 0, 0, 1, 1, 2]), Ok(Message::Phase1b { ins: 0, acc: 0, mbal: 1, vote: None }));
+    /// assert_eq!(read(&[0x39, 0, 0, 1, 1]), Err(Refusal::WrongLength));
+    /// assert_eq!(read(&[0x39, 0, 0, 1, 1, 3]), Err(Refusal::OtherOrder));
+    /// assert_eq!(read(b"junk"), Err(Refusal::UnknownMap));
     /// ```
     pub fn read(plan: Plan, bytes: &[u8]) -> Result<Message, Refusal> {
         let Fields { map, ins, acc, mbal, bal, val } = Fields::read(plan, bytes)?;
@@ -168,12 +185,12 @@ impl Message {
             _ => outside(),
         };
         Ok(match map {
-            0x09 => Message::Phase1a { ins, bal },
-            0x07 => Message::Phase1b { ins, acc, mbal, vote: None },
-            0x1F => Message::Phase1b { ins, acc, mbal, vote: Some(Vote { bal, val: value() }) },
-            0x19 => Message::Phase2a { ins, bal, val: value() },
-            0x1B => Message::Phase2b { ins, acc, bal, val: value() },
-            0x10 => Message::Decision {
+            map::PHASE_1A => Message::Phase1a { ins, bal },
+            map::PHASE_1B => Message::Phase1b { ins, acc, mbal, vote: None },
+            map::PHASE_1B_VOTE => Message::Phase1b { ins, acc, mbal, vote: Some(Vote { bal, val: value() }) },
+            map::PHASE_2A => Message::Phase2a { ins, bal, val: value() },
+            map::PHASE_2B => Message::Phase2b { ins, acc, bal, val: value() },
+            map::DECISION => Message::Decision {
                 val: match val {
                     1 => Decision::Commit,
                     2 => Decision::Abort,
@@ -189,11 +206,11 @@ impl Message {
     /// ```
     /// use paxos_commit::{Message, Plan, Refusal, Value};
     ///
-    /// let plan = Plan { rms: 2, acceptors: 3, leaders: 1 };
+    /// let plan = Plan { rms: 2, acceptors: 3, leaders: 1, order: 0x0102 };
     /// let vote = Message::Phase2b { ins: 1, acc: 2, bal: 7, val: Value::Aborted };
     /// let written = vote.write(plan)?;
-    /// assert_eq!(*written, [0x1B, 1, 2, 7, 2]);
-    /// assert_eq!(written.slot(), [0x1B, 1, 2, 7, 2, 0]);
+    /// assert_eq!(*written, [0x3B, 1, 2, 7, 2, 1, 2]);
+    /// assert_eq!(written.slot(), [0x3B, 1, 2, 7, 2, 1, 2, 0]);
     /// assert_eq!(Message::read(plan, &written), Ok(vote));
     /// assert_eq!(Message::Phase1a { ins: 0, bal: 0 }.write(plan), Err(Refusal::OutOfRange));
     /// # Ok::<(), Refusal>(())
@@ -202,16 +219,28 @@ impl Message {
         Fields::from(self).write(plan)
     }
 
+    /// How many bytes the message has that begins with this map; 0 for a byte that is no message's map. So much is to be
+    /// taken from a stream of messages.
+    ///
+    /// ```
+    /// # use paxos_commit::Message;
+    /// assert_eq!([0x29, 0x27, 0x3F, 0x39, 0x3B, 0x30, 0, 0x19].map(Message::length), [5, 6, 8, 6, 7, 4, 0, 0]);
+    /// ```
+    #[inline]
+    pub fn length(map: u8) -> usize {
+        ffi::length(map) as usize
+    }
+
     /// The message in a slot of a network or an inbox; [`Refusal::NoMessage`] where the slot is unused or beyond the
     /// table. It judges this slot alone, as the reader does.
     pub fn in_slot(plan: Plan, table: &[u8], slot: u16) -> Result<Message, Refusal> {
         let Some(bytes) = table.chunks_exact(SLOT).nth(slot.into()) else {
             return Err(Refusal::NoMessage);
         };
-        // The length by the map's bits: one byte, and one for each field.
+        // The map's length; what is no map, the reader refuses.
         let len = match bytes[0] {
             0 if bytes.iter().all(|&byte| byte == 0) => return Err(Refusal::NoMessage),
-            map => (1 + map.count_ones() as usize).min(SLOT),
+            map => Message::length(map).clamp(1, SLOT),
         };
         let message = Message::read(plan, &bytes[..len])?;
         if bytes[len..].iter().any(|&byte| byte != 0) {
@@ -225,19 +254,21 @@ impl Message {
 /// message goes into the first unused slot unless it stands in the table; the answer is the first slot where it stands,
 /// which events of kinds 2, 3 and 4 name.
 ///
-/// Refusals: `BadPlan`, `BadLengths`, `BadNetwork`, `NetworkFull`, `UnknownMap`, `WrongLength`, `OutOfRange`.
+/// Refusals: `BadPlan`, `BadLengths`, `BadNetwork`, `NetworkFull`, `UnknownMap`, `WrongLength`, `OutOfRange`,
+/// `OtherOrder`.
 ///
 /// ```
 /// use paxos_commit::{deliver, slots_len, Plan, Refusal};
 ///
-/// let plan = Plan { rms: 1, acceptors: 3, leaders: 1 };
+/// let plan = Plan { rms: 1, acceptors: 3, leaders: 1, order: 7 };
 /// let mut network = vec![0; slots_len(1)];
-/// assert_eq!(deliver(plan, &mut network, &[0x09, 0, 1]), Ok(0));
-/// assert_eq!(deliver(plan, &mut network, &[0x09, 0, 1]), Ok(0));
-/// assert_eq!(deliver(plan, &mut network, &[0x09, 0, 2]), Err(Refusal::NetworkFull));
-/// assert_eq!(deliver(plan, &mut network, b"?"), Err(Refusal::UnknownMap));
+/// assert_eq!(deliver(plan, &mut network, &[0x29, 0, 1, 0, 7]), Ok(0));
+/// assert_eq!(deliver(plan, &mut network, &[0x29, 0, 1, 0, 7]), Ok(0));
+/// assert_eq!(deliver(plan, &mut network, &[0x29, 0, 2, 0, 7]), Err(Refusal::NetworkFull));
+/// assert_eq!(deliver(plan, &mut network, &[0x29, 0, 1, 0, 8]), Err(Refusal::OtherOrder));
+/// assert_eq!(deliver(plan, &mut network, b"!"), Err(Refusal::UnknownMap));
 /// network[5] = 1;
-/// assert_eq!(deliver(plan, &mut network, &[0x09, 0, 1]), Err(Refusal::BadNetwork));
+/// assert_eq!(deliver(plan, &mut network, &[0x29, 0, 1, 0, 7]), Err(Refusal::BadNetwork));
 /// ```
 #[cfg(feature = "deliver")]
 #[inline]

@@ -3,7 +3,7 @@
 use core::ops::Range;
 
 /// The bytes of a slot.
-pub const SLOT: usize = 6;
+pub const SLOT: usize = 8;
 
 /// The most slots that the network or one inbox may have.
 pub const MAX_SLOTS: usize = 1024;
@@ -13,9 +13,9 @@ pub const fn slots_len(slots: usize) -> usize {
     slots.saturating_mul(SLOT)
 }
 
-/// The counts of an order, each numbered from 0. All calls on a record are given the plan that it was opened with: the
-/// tables do not keep it. A plan out of range is no error of the caller: every call refuses it with
-/// [`Refusal::BadPlan`](crate::Refusal::BadPlan).
+/// The counts of an order, each numbered from 0, and the order's number. All calls on a record are given the plan that
+/// it was opened with: the tables do not keep it. A plan out of range is no error of the caller: every call refuses it
+/// with [`Refusal::BadPlan`](crate::Refusal::BadPlan).
 #[derive(Clone, Copy, Debug, PartialEq, Eq, Hash)]
 pub struct Plan {
     /// Resource managers (document 01: weights), 1 to 16.
@@ -24,6 +24,9 @@ pub struct Plan {
     pub acceptors: u8,
     /// Leaders, 1 to 4.
     pub leaders: u8,
+    /// The order's number, which stands in each of its messages. Orders that share a link have different ones; none is
+    /// out of range.
+    pub order: u16,
 }
 
 impl Plan {
@@ -65,7 +68,7 @@ impl Plan {
     ///
     /// ```
     /// # use paxos_commit::Plan;
-    /// let plan = Plan { rms: 2, acceptors: 3, leaders: 2 };
+    /// let plan = Plan { rms: 2, acceptors: 3, leaders: 2, order: 0 };
     /// assert_eq!(plan.owner(0), None);
     /// assert_eq!(plan.owner(5), Some(1));
     /// ```

@@ -2,7 +2,7 @@
 
 use crate::answer::refused;
 use crate::plan::slots_len;
-use crate::{Answer, Event, Plan, Refusal, ffi};
+use crate::{Answer, Event, Plan, Refusal, SLOT, ffi};
 
 /// Opens a record on lent tables: every byte becomes 0. It refuses `BadPlan` and `BadLengths`, and looks at
 /// nothing else.
@@ -52,7 +52,7 @@ pub enum Ending {
 /// ```
 /// use paxos_commit::{ending, Ending, Plan, Refusal};
 ///
-/// let plan = Plan { rms: 3, acceptors: 3, leaders: 1 };
+/// let plan = Plan { rms: 3, acceptors: 3, leaders: 1, order: 0 };
 /// assert_eq!(ending(plan, &[2, 2, 2]), Ok(Ending::Committed));
 /// assert_eq!(ending(plan, &[3, 3, 3]), Ok(Ending::Aborted));
 /// assert_eq!(ending(plan, &[2, 2, 1]), Ok(Ending::Open));
@@ -74,7 +74,7 @@ pub fn ending(plan: Plan, states: &[u8]) -> Result<Ending, Refusal> {
 /// ```
 /// use paxos_commit::{slots_len, Answer, Event, Plan, Record, Refusal};
 ///
-/// let plan = Plan { rms: 3, acceptors: 3, leaders: 2 };
+/// let plan = Plan { rms: 3, acceptors: 3, leaders: 2, order: 0 };
 /// let mut buffer = vec![0xAA; plan.states_len() + plan.votes_len() + slots_len(32) + plan.inboxes_len(16)];
 /// let (states, rest) = buffer.split_at_mut(plan.states_len());
 /// let (votes, rest) = rest.split_at_mut(plan.votes_len());
@@ -101,8 +101,8 @@ impl Record {
     ///
     /// ```
     /// # use paxos_commit::{Plan, Record, Refusal};
-    /// assert_eq!(Record::fresh(Plan { rms: 17, acceptors: 1, leaders: 1 }, 8, 8), Err(Refusal::BadPlan));
-    /// assert_eq!(Record::fresh(Plan { rms: 16, acceptors: 1, leaders: 1 }, 1025, 8), Err(Refusal::BadLengths));
+    /// assert_eq!(Record::fresh(Plan { rms: 17, acceptors: 1, leaders: 1, order: 0 }, 8, 8), Err(Refusal::BadPlan));
+    /// assert_eq!(Record::fresh(Plan { rms: 16, acceptors: 1, leaders: 1, order: 0 }, 1025, 8), Err(Refusal::BadLengths));
     /// ```
     pub fn fresh(plan: Plan, network_slots: usize, inbox_slots: usize) -> Result<Record, Refusal> {
         // No more than one slot over the limit, so that a count from anywhere takes no memory before it is refused.
@@ -158,7 +158,7 @@ impl<T: AsRef<[u8]> + AsMut<[u8]>> Record<T> {
         self.votes.as_ref()
     }
 
-    /// N: slots of six bytes.
+    /// N: slots of eight bytes.
     pub fn network(&self) -> &[u8] {
         self.network.as_ref()
     }
@@ -168,8 +168,8 @@ impl<T: AsRef<[u8]> + AsMut<[u8]>> Record<T> {
         self.inboxes.as_ref()
     }
 
-    /// The six bytes of a slot of N: a message followed by zeros, or six zeros; `None` beyond N.
-    pub fn slot(&self, slot: u16) -> Option<[u8; 6]> {
+    /// The eight bytes of a slot of N: a message followed by zeros, or eight zeros; `None` beyond N.
+    pub fn slot(&self, slot: u16) -> Option<[u8; SLOT]> {
         self.network().as_chunks().0.get(usize::from(slot)).copied()
     }
 

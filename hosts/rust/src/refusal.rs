@@ -15,8 +15,8 @@ pub enum Refusal {
     BadStates = 3,
     /// 4: in Q a value above 2, or a ballot without a vote.
     BadVotes = 4,
-    /// 5: in N a slot that is neither unused nor a readable message with zeros after it, or a used slot after an unused
-    /// one.
+    /// 5: in N a slot that is neither unused nor a readable message of this order with zeros after it, or a used slot
+    /// after an unused one.
     BadNetwork = 5,
     /// 6: the same in an inbox.
     BadInbox = 6,
@@ -43,11 +43,13 @@ pub enum Refusal {
     WrongLength = 16,
     /// 17: an instance, acceptor or value out of range, or a 1a at ballot 0.
     OutOfRange = 17,
+    /// 18: nothing else is wrong, but the message has another order number.
+    OtherOrder = 18,
 }
 
 impl Refusal {
     /// All refusals, by number.
-    pub const ALL: [Refusal; 17] = [
+    pub const ALL: [Refusal; 18] = [
         Refusal::BadPlan,
         Refusal::BadLengths,
         Refusal::BadStates,
@@ -65,14 +67,15 @@ impl Refusal {
         Refusal::UnknownMap,
         Refusal::WrongLength,
         Refusal::OutOfRange,
+        Refusal::OtherOrder,
     ];
 
-    /// The number in document 01, 1 to 17.
+    /// The number in documents 01 and 02, 1 to 18.
     pub const fn number(self) -> u8 {
         self as u8
     }
 
-    /// The refusal with this number; `None` for 0 and for numbers above 17.
+    /// The refusal with this number; `None` for 0 and for numbers above 18.
     #[inline]
     pub const fn from_number(number: u8) -> Option<Refusal> {
         // One arm for each, since the compiler sees then that a refusal is its number.
@@ -94,6 +97,7 @@ impl Refusal {
             15 => Refusal::UnknownMap,
             16 => Refusal::WrongLength,
             17 => Refusal::OutOfRange,
+            18 => Refusal::OtherOrder,
             _ => return None,
         })
     }
@@ -119,6 +123,7 @@ impl fmt::Display for Refusal {
             Refusal::UnknownMap => "no message, or an unknown one",
             Refusal::WrongLength => "the length is not the message's",
             Refusal::OutOfRange => "a field of the message is out of range",
+            Refusal::OtherOrder => "the message is of another order",
         };
         write!(f, "{words} ({})", self.number())
     }

@@ -13,12 +13,12 @@ use crate::{Answer, Plan, Refusal, ffi};
 /// ```
 /// use paxos_commit::{rm_step, slots_len, Answer, Event, Plan, Refusal};
 ///
-/// let plan = Plan { rms: 2, acceptors: 3, leaders: 1 };
+/// let plan = Plan { rms: 2, acceptors: 3, leaders: 1, order: 7 };
 /// let (mut states, mut network) = (vec![0; plan.states_len()], vec![0; slots_len(64)]);
 /// let event = Event::Prepare { rm: 1 }.bytes();
 /// assert_eq!(rm_step(plan, &mut states, &mut network, &event), Ok(Answer::Slot(0)));
 /// assert_eq!(states, [0, 1]);
-/// assert_eq!(network[..6], [0x19, 1, 0, 1, 0, 0]);
+/// assert_eq!(network[..8], [0x39, 1, 0, 1, 0, 7, 0, 0]); // a 2a of order 7
 /// assert_eq!(rm_step(plan, &mut states, &mut network, &event), Err(Refusal::NotEnabled));
 /// ```
 #[cfg(feature = "rm")]
@@ -36,12 +36,12 @@ pub fn rm_step(plan: Plan, states: &mut [u8], network: &mut [u8], event: &[u8]) 
 /// ```
 /// use paxos_commit::{acceptor_step, slots_len, Answer, Event, Plan};
 ///
-/// let plan = Plan { rms: 1, acceptors: 3, leaders: 1 };
+/// let plan = Plan { rms: 1, acceptors: 3, leaders: 1, order: 7 };
 /// let (mut votes, mut network) = (vec![0; plan.votes_len()], vec![0; slots_len(64)]);
-/// network[..3].copy_from_slice(&[0x09, 0, 4]); // 1a: a leader begins ballot 4 for instance 0
+/// network[..5].copy_from_slice(&[0x29, 0, 4, 0, 7]); // 1a: a leader begins ballot 4 for instance 0
 /// let event = Event::Vote { acceptor: 2, slot: 0 }.bytes();
 /// assert_eq!(acceptor_step(plan, &mut votes, &mut network, &event), Ok(Answer::Slot(1)));
-/// assert_eq!(network[6..12], [0x07, 0, 2, 4, 0, 0]); // 1b of acceptor 2: ballot 4, no vote so far
+/// assert_eq!(network[8..16], [0x27, 0, 2, 4, 0, 7, 0, 0]); // 1b of acceptor 2: ballot 4, no vote so far
 /// assert_eq!(votes[plan.vote_range(0, 2).unwrap()], [4, 0, 0]);
 /// ```
 #[cfg(feature = "acceptor")]
@@ -59,9 +59,9 @@ pub fn acceptor_step(plan: Plan, votes: &mut [u8], network: &mut [u8], event: &[
 /// ```
 /// use paxos_commit::{leader_step, slots_len, Answer, Event, Plan, Refusal};
 ///
-/// let plan = Plan { rms: 1, acceptors: 1, leaders: 2 };
+/// let plan = Plan { rms: 1, acceptors: 1, leaders: 2, order: 7 };
 /// let (mut inbox, mut network) = (vec![0; slots_len(64)], vec![0; slots_len(64)]);
-/// network[..5].copy_from_slice(&[0x1B, 0, 0, 0, 1]); // 2b: acceptor 0 votes prepared at ballot 0
+/// network[..7].copy_from_slice(&[0x3B, 0, 0, 0, 1, 0, 7]); // 2b: acceptor 0 votes prepared at ballot 0
 /// let mut step = |event: Event| leader_step(plan, &mut inbox, &mut network, &event.bytes());
 /// assert_eq!(step(Event::Commit { leader: 1 }), Err(Refusal::NotEnabled));
 /// assert_eq!(step(Event::Receipt { leader: 1, slot: 0 }), Ok(Answer::Quiet));

@@ -5,7 +5,7 @@
 
 use paxos_commit::*;
 
-const ONE: Plan = Plan { rms: 1, acceptors: 1, leaders: 1 };
+const ONE: Plan = Plan { rms: 1, acceptors: 1, leaders: 1, order: 0x0102 };
 
 #[cfg(feature = "message")]
 #[test]
@@ -18,29 +18,29 @@ fn message() {
 #[cfg(feature = "deliver")]
 #[test]
 fn delivery() {
-    let mut network = [0; 6];
-    assert_eq!(deliver(ONE, &mut network, &[0x10, 2]), Ok(0));
-    assert_eq!(network, [0x10, 2, 0, 0, 0, 0]);
-    assert_eq!(deliver(ONE, &mut network, &[0x10, 1]), Err(Refusal::NetworkFull));
+    let mut network = [0; 8];
+    assert_eq!(deliver(ONE, &mut network, &[0x30, 2, 1, 2]), Ok(0));
+    assert_eq!(network, [0x30, 2, 1, 2, 0, 0, 0, 0]);
+    assert_eq!(deliver(ONE, &mut network, &[0x30, 1, 1, 2]), Err(Refusal::NetworkFull));
 }
 
 #[cfg(feature = "rm")]
 #[test]
 fn rm() {
-    assert_eq!(rm_step(ONE, &mut [0], &mut [0; 6], &[1, 0, 0, 0]), Ok(Answer::Slot(0)));
+    assert_eq!(rm_step(ONE, &mut [0], &mut [0; 8], &[1, 0, 0, 0]), Ok(Answer::Slot(0)));
 }
 
 #[cfg(feature = "acceptor")]
 #[test]
 fn acceptor() {
-    let mut network = [0x09, 0, 1, 0, 0, 0, 0, 0, 0, 0, 0, 0];
+    let mut network = [0x29, 0, 1, 1, 2, 0, 0, 0, 0, 0, 0, 0, 0, 0, 0, 0];
     assert_eq!(acceptor_step(ONE, &mut [0; 3], &mut network, &[3, 0, 0, 0]), Ok(Answer::Slot(1)));
 }
 
 #[cfg(feature = "leader")]
 #[test]
 fn leader() {
-    assert_eq!(leader_step(ONE, &mut [], &mut [0; 6], &[5, 0, 0, 1]), Ok(Answer::Slot(0)));
+    assert_eq!(leader_step(ONE, &mut [], &mut [0; 8], &[5, 0, 0, 1]), Ok(Answer::Slot(0)));
 }
 
 #[cfg(feature = "record")]

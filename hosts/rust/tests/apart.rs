@@ -114,20 +114,20 @@ fn restart(role: Role, k: u8, table: &[u8], network: &[u8]) -> Happening {
 
 #[test]
 fn the_list_that_commits() {
-    let plan = Plan { rms: 1, acceptors: 1, leaders: 1 };
-    let mut system = System::fresh(plan, [(Rm, 1, 1, 12), (Acceptor, 1, 3, 18), (Leader, 1, 12, 12)]);
+    let plan = Plan { rms: 1, acceptors: 1, leaders: 1, order: 0x0102 };
+    let mut system = System::fresh(plan, [(Rm, 1, 1, 16), (Acceptor, 1, 3, 24), (Leader, 1, 16, 16)]);
     let (slot, quiet) = (|slot| Ok(Answer::Slot(slot)), Ok(Answer::Quiet));
     for (happening, answer) in [
         (act(Rm, 0, 0, 0, 0), slot(0)),
-        (to(Acceptor, 0, &[0x19, 0, 0, 1]), slot(0)),
-        (to(Acceptor, 0, &[0x19, 0, 0, 1]), slot(0)),
+        (to(Acceptor, 0, &[0x39, 0, 0, 1, 1, 2]), slot(0)),
+        (to(Acceptor, 0, &[0x39, 0, 0, 1, 1, 2]), slot(0)),
         (act(Acceptor, 0, 3, 0, 0), slot(1)),
-        (to(Leader, 0, &[0x09, 0]), Err(Refusal::WrongLength)),
-        (to(Leader, 0, &[0x1B, 0, 0, 0, 1]), slot(0)),
+        (to(Leader, 0, &[0x29, 0]), Err(Refusal::WrongLength)),
+        (to(Leader, 0, &[0x3B, 0, 0, 0, 1, 1, 2]), slot(0)),
         (act(Leader, 0, 4, 0, 0), quiet),
         (act(Leader, 0, 7, 0, 0), slot(1)),
-        (restart(Leader, 0, &[0x1B, 0, 0, 0, 1, 0, 0, 0, 0, 0, 0, 0], &[0; 6]), quiet),
-        (to(Rm, 0, &[0x10, 1]), slot(1)),
+        (restart(Leader, 0, &[0x3B, 0, 0, 0, 1, 1, 2, 0, 0, 0, 0, 0, 0, 0, 0, 0], &[0; 8]), quiet),
+        (to(Rm, 0, &[0x30, 1, 1, 2]), slot(1)),
         (act(Rm, 0, 2, 0, 1), quiet),
     ] {
         assert_eq!(system.failed(&happening), [""; 0], "{happening:?}");
@@ -141,23 +141,23 @@ fn the_list_that_commits() {
 /// weight 1.
 fn deciding() -> Vec<Happening> {
     vec![
-        to(Acceptor, 0, &[0x19, 0, 0, 1]),
+        to(Acceptor, 0, &[0x39, 0, 0, 1, 1, 2]),
         act(Acceptor, 0, 3, 0, 0),
-        to(Acceptor, 0, &[0x19, 1, 0, 1]),
+        to(Acceptor, 0, &[0x39, 1, 0, 1, 1, 2]),
         act(Acceptor, 0, 3, 0, 2),
-        to(Leader, 0, &[0x1B, 0, 0, 0, 1]),
+        to(Leader, 0, &[0x3B, 0, 0, 0, 1, 1, 2]),
         act(Leader, 0, 4, 0, 0),
-        to(Leader, 0, &[0x1B, 1, 0, 0, 1]),
+        to(Leader, 0, &[0x3B, 1, 0, 0, 1, 1, 2]),
         act(Leader, 0, 4, 0, 1),
         act(Leader, 0, 7, 0, 0),
-        to(Rm, 1, &[0x10, 1]),
+        to(Rm, 1, &[0x30, 1, 1, 2]),
     ]
 }
 
 /// One happening fails one hypothesis, no other fails any, and weight 0 ends aborted, weight 1 committed.
 fn breaks(hypothesis: &str, before: Vec<Happening>, one: Happening, rest: Vec<Happening>) {
-    let plan = Plan { rms: 2, acceptors: 1, leaders: 1 };
-    let mut system = System::fresh(plan, [(Rm, 2, 2, 18), (Acceptor, 1, 6, 36), (Leader, 1, 30, 48)]);
+    let plan = Plan { rms: 2, acceptors: 1, leaders: 1, order: 0x0102 };
+    let mut system = System::fresh(plan, [(Rm, 2, 2, 24), (Acceptor, 1, 6, 48), (Leader, 1, 40, 64)]);
     let at = before.len();
     for (number, happening) in before.into_iter().chain([one]).chain(rest).enumerate() {
         let failed = system.failed(&happening);
@@ -176,16 +176,16 @@ fn own_number_needed() {
 #[test]
 fn not_forged_needed() {
     let before = vec![act(Rm, 0, 1, 0, 0), act(Rm, 1, 0, 0, 0)];
-    breaks("NotForged", before.clone(), to(Rm, 1, &[0x10, 1]), vec![act(Rm, 1, 2, 0, 1)]);
-    let mut network = [0; 18];
-    network[..2].copy_from_slice(&[0x10, 1]);
+    breaks("NotForged", before.clone(), to(Rm, 1, &[0x30, 1, 1, 2]), vec![act(Rm, 1, 2, 0, 1)]);
+    let mut network = [0; 24];
+    network[..4].copy_from_slice(&[0x30, 1, 1, 2]);
     breaks("NotForged", before, restart(Rm, 1, &[0, 1], &network), vec![act(Rm, 1, 2, 0, 0)]);
 }
 
 #[test]
 fn states_kept_needed() {
-    let mut network = [0; 18];
-    network[..4].copy_from_slice(&[0x19, 0, 0, 1]);
+    let mut network = [0; 24];
+    network[..6].copy_from_slice(&[0x39, 0, 0, 1, 1, 2]);
     let rest = [vec![act(Rm, 1, 0, 0, 0), act(Rm, 0, 1, 0, 0)], deciding(), vec![act(Rm, 1, 2, 0, 1)]].concat();
     breaks("TableKept", vec![act(Rm, 0, 0, 0, 0)], restart(Rm, 0, &[0, 0], &network), rest);
 }
@@ -195,20 +195,20 @@ fn votes_kept_needed() {
     let before = [vec![act(Rm, 0, 0, 0, 0), act(Rm, 1, 0, 0, 0)], deciding(), vec![act(Rm, 1, 2, 0, 1)]].concat();
     let rest = vec![
         act(Leader, 0, 5, 0, 1),
-        to(Acceptor, 0, &[0x09, 0, 1]),
+        to(Acceptor, 0, &[0x29, 0, 1, 1, 2]),
         act(Acceptor, 0, 3, 0, 0),
-        to(Leader, 0, &[0x07, 0, 0, 1]),
+        to(Leader, 0, &[0x27, 0, 0, 1, 1, 2]),
         act(Leader, 0, 4, 0, 4),
         act(Leader, 0, 6, 0, 1),
-        to(Acceptor, 0, &[0x19, 0, 1, 2]),
+        to(Acceptor, 0, &[0x39, 0, 1, 2, 1, 2]),
         act(Acceptor, 0, 3, 0, 2),
-        to(Leader, 0, &[0x1B, 0, 0, 1, 2]),
+        to(Leader, 0, &[0x3B, 0, 0, 1, 2, 1, 2]),
         act(Leader, 0, 4, 0, 6),
         act(Leader, 0, 8, 0, 0),
-        to(Rm, 0, &[0x10, 2]),
+        to(Rm, 0, &[0x30, 2, 1, 2]),
         act(Rm, 0, 2, 0, 1),
     ];
-    breaks("TableKept", before, restart(Acceptor, 0, &[0; 6], &[0; 36]), rest);
+    breaks("TableKept", before, restart(Acceptor, 0, &[0; 6], &[0; 48]), rest);
 }
 
 /// Of three acceptors, acceptor 0 has voted for weight 0's prepared. By its report and acceptor 1's, the leader proposes
@@ -216,9 +216,9 @@ fn votes_kept_needed() {
 /// and 2, which report no vote, and proposes aborted at ballot 1.
 #[test]
 fn inbox_kept_needed() {
-    let plan = Plan { rms: 2, acceptors: 3, leaders: 1 };
+    let plan = Plan { rms: 2, acceptors: 3, leaders: 1, order: 0x0102 };
     let network = slots_len(32);
-    let mut system = System::fresh(plan, [(Rm, 2, 2, network), (Acceptor, 3, 18, network), (Leader, 1, 120, network)]);
+    let mut system = System::fresh(plan, [(Rm, 2, 2, network), (Acceptor, 3, 18, network), (Leader, 1, 160, network)]);
     let genuine = |system: &mut System, happening: Happening| {
         assert_eq!(system.failed(&happening), [""; 0], "{happening:?}");
         match system.happen(&happening) {
@@ -235,37 +235,37 @@ fn inbox_kept_needed() {
     let s = &mut system;
     genuine(s, act(Rm, 0, 0, 0, 0));
     genuine(s, act(Rm, 1, 0, 0, 0));
-    take(s, Acceptor, 0, 3, &[0x19, 0, 0, 1]);
-    take(s, Acceptor, 0, 3, &[0x19, 1, 0, 1]);
-    take(s, Acceptor, 1, 3, &[0x19, 1, 0, 1]);
+    take(s, Acceptor, 0, 3, &[0x39, 0, 0, 1, 1, 2]);
+    take(s, Acceptor, 0, 3, &[0x39, 1, 0, 1, 1, 2]);
+    take(s, Acceptor, 1, 3, &[0x39, 1, 0, 1, 1, 2]);
     genuine(s, act(Leader, 0, 5, 0, 1));
     for acceptor in 0..3 {
-        take(s, Acceptor, acceptor, 3, &[0x09, 0, 1]);
+        take(s, Acceptor, acceptor, 3, &[0x29, 0, 1, 1, 2]);
     }
-    take(s, Leader, 0, 4, &[0x1F, 0, 0, 1, 0, 1]);
-    take(s, Leader, 0, 4, &[0x07, 0, 1, 1]);
+    take(s, Leader, 0, 4, &[0x3F, 0, 0, 1, 0, 1, 1, 2]);
+    take(s, Leader, 0, 4, &[0x27, 0, 1, 1, 1, 2]);
     genuine(s, act(Leader, 0, 6, 0, 1));
     for acceptor in 0..2 {
-        take(s, Acceptor, acceptor, 3, &[0x19, 0, 1, 1]);
-        take(s, Leader, 0, 4, &[0x1B, 0, acceptor, 1, 1]);
-        take(s, Leader, 0, 4, &[0x1B, 1, acceptor, 0, 1]);
+        take(s, Acceptor, acceptor, 3, &[0x39, 0, 1, 1, 1, 2]);
+        take(s, Leader, 0, 4, &[0x3B, 0, acceptor, 1, 1, 1, 2]);
+        take(s, Leader, 0, 4, &[0x3B, 1, acceptor, 0, 1, 1, 2]);
     }
     genuine(s, act(Leader, 0, 7, 0, 0));
-    take(s, Rm, 1, 2, &[0x10, 1]);
+    take(s, Rm, 1, 2, &[0x30, 1, 1, 2]);
 
-    let lost = restart(Leader, 0, &[0; 120], &s.hosts[&(Leader, 0)].network);
+    let lost = restart(Leader, 0, &[0; 160], &s.hosts[&(Leader, 0)].network);
     assert_eq!(s.failed(&lost), ["TableKept"]);
     assert_eq!(s.happen(&lost), Ok(Answer::Quiet));
 
-    take(s, Leader, 0, 4, &[0x07, 0, 1, 1]);
-    take(s, Leader, 0, 4, &[0x07, 0, 2, 1]);
+    take(s, Leader, 0, 4, &[0x27, 0, 1, 1, 1, 2]);
+    take(s, Leader, 0, 4, &[0x27, 0, 2, 1, 1, 2]);
     genuine(s, act(Leader, 0, 6, 0, 1));
     for acceptor in 1..3 {
-        take(s, Acceptor, acceptor, 3, &[0x19, 0, 1, 2]);
-        take(s, Leader, 0, 4, &[0x1B, 0, acceptor, 1, 2]);
+        take(s, Acceptor, acceptor, 3, &[0x39, 0, 1, 2, 1, 2]);
+        take(s, Leader, 0, 4, &[0x3B, 0, acceptor, 1, 2, 1, 2]);
     }
     genuine(s, act(Leader, 0, 8, 0, 0));
-    take(s, Rm, 0, 2, &[0x10, 2]);
+    take(s, Rm, 0, 2, &[0x30, 2, 1, 2]);
     assert_eq!(s.row(), [3, 2]);
 }
 
@@ -273,23 +273,23 @@ fn inbox_kept_needed() {
 /// room.
 #[test]
 fn longer_tables() {
-    let plan = Plan { rms: 1, acceptors: 2, leaders: 1 };
-    let mut system = System::fresh(plan, [(Rm, 1, 1, 6), (Acceptor, 2, 6, 12), (Leader, 1, 6, 6)]);
+    let plan = Plan { rms: 1, acceptors: 2, leaders: 1, order: 0x0102 };
+    let mut system = System::fresh(plan, [(Rm, 1, 1, 8), (Acceptor, 2, 6, 16), (Leader, 1, 8, 8)]);
     let (slot, quiet) = (|slot| Ok(Answer::Slot(slot)), Ok(Answer::Quiet));
-    let votes = [0x1B, 0, 0, 0, 1, 0, 0x1B, 0, 1, 0, 1, 0];
+    let votes = [0x3B, 0, 0, 0, 1, 1, 2, 0, 0x3B, 0, 1, 0, 1, 1, 2, 0];
     for (happening, answer) in [
         (act(Rm, 0, 0, 0, 0), slot(0)),
-        (to(Acceptor, 0, &[0x19, 0, 0, 1]), slot(0)),
+        (to(Acceptor, 0, &[0x39, 0, 0, 1, 1, 2]), slot(0)),
         (act(Acceptor, 0, 3, 0, 0), slot(1)),
-        (to(Acceptor, 1, &[0x19, 0, 0, 1]), slot(0)),
+        (to(Acceptor, 1, &[0x39, 0, 0, 1, 1, 2]), slot(0)),
         (act(Acceptor, 1, 3, 0, 0), slot(1)),
-        (to(Leader, 0, &votes[..5]), slot(0)),
+        (to(Leader, 0, &votes[..7]), slot(0)),
         (act(Leader, 0, 4, 0, 0), quiet),
-        (to(Leader, 0, &votes[6..11]), Err(Refusal::NetworkFull)),
-        (restart(Leader, 0, &votes[..6], &[&votes[..6], &[0; 12]].concat()), quiet),
-        (to(Leader, 0, &votes[6..11]), slot(1)),
+        (to(Leader, 0, &votes[8..15]), Err(Refusal::NetworkFull)),
+        (restart(Leader, 0, &votes[..8], &[&votes[..8], &[0; 16]].concat()), quiet),
+        (to(Leader, 0, &votes[8..15]), slot(1)),
         (act(Leader, 0, 4, 0, 1), Err(Refusal::InboxFull)),
-        (restart(Leader, 0, &[&votes[..6], &[0; 6]].concat(), &[&votes[..], &[0; 6]].concat()), quiet),
+        (restart(Leader, 0, &[&votes[..8], &[0; 8]].concat(), &[&votes[..], &[0; 8]].concat()), quiet),
         (act(Leader, 0, 4, 0, 1), quiet),
         (act(Leader, 0, 7, 0, 0), slot(2)),
     ] {

@@ -1,8 +1,9 @@
-//! Document 01's examples, its rehearsal and its limits through this crate.
+//! Document 01's examples, its rehearsal and its limits through this crate, in an order with a number (document 02, Paper
+//! 1), and what is refused of another order.
 
 use paxos_commit::*;
 
-const ONE: Plan = Plan { rms: 1, acceptors: 1, leaders: 1 };
+const ONE: Plan = Plan { rms: 1, acceptors: 1, leaders: 1, order: 0x0102 };
 
 fn plan(acceptors: u8) -> Plan {
     Plan { acceptors, ..ONE }
@@ -19,12 +20,44 @@ fn table(messages: &[&[u8]]) -> Vec<u8> {
 
 #[test]
 fn examples_1_to_6() {
-    assert_eq!(Message::read(ONE, &[0x19, 0, 0, 1]), Ok(Message::Phase2a { ins: 0, bal: 0, val: Value::Prepared }));
-    assert_eq!(Message::read(ONE, &[0x07, 0, 0, 1]), Ok(Message::Phase1b { ins: 0, acc: 0, mbal: 1, vote: None }));
+    assert_eq!(
+        Message::read(ONE, &[0x39, 0, 0, 1, 1, 2]),
+        Ok(Message::Phase2a { ins: 0, bal: 0, val: Value::Prepared })
+    );
+    assert_eq!(
+        Message::read(ONE, &[0x27, 0, 0, 1, 1, 2]),
+        Ok(Message::Phase1b { ins: 0, acc: 0, mbal: 1, vote: None })
+    );
     assert_eq!(Message::read(ONE, &[0]), Err(Refusal::UnknownMap));
-    assert_eq!(Message::read(ONE, &[0x19, 0, 0]), Err(Refusal::WrongLength));
-    assert_eq!(Message::read(ONE, &[0x19, 0, 0, 3]), Err(Refusal::OutOfRange));
-    assert_eq!(Message::read(ONE, &[0x09, 0, 0]), Err(Refusal::OutOfRange));
+    assert_eq!(Message::read(ONE, &[0x39, 0, 0, 1, 2]), Err(Refusal::WrongLength));
+    assert_eq!(Message::read(ONE, &[0x39, 0, 0, 3, 1, 2]), Err(Refusal::OutOfRange));
+    assert_eq!(Message::read(ONE, &[0x29, 0, 0, 1, 2]), Err(Refusal::OutOfRange));
+}
+
+/// A Commit of another order: the reader and the delivery refuse it with 18, after all else; in a table it is damage; and
+/// the other order reads it. A map of document 01, without bit 5, is unknown.
+#[test]
+fn another_order() {
+    let commit = Message::Decision { val: Decision::Commit };
+    for order in [0x0103, 0x0202, 0x0201, 0, 0xFFFF] {
+        let other = Plan { order, ..ONE };
+        let written = commit.write(other).unwrap();
+        assert_eq!(Message::read(other, &written), Ok(commit));
+        assert_eq!(Message::read(ONE, &written), Err(Refusal::OtherOrder));
+        assert_eq!(Message::read(ONE, &written[..3]), Err(Refusal::WrongLength));
+        let mut network = [0; 8];
+        assert_eq!(deliver(ONE, &mut network, &written), Err(Refusal::OtherOrder));
+        assert_eq!(network, [0; 8]);
+        let (mut inbox, mut full) = (written.slot(), written.slot());
+        let event = Event::Commit { leader: 0 }.bytes();
+        assert_eq!(leader_step(ONE, &mut inbox, &mut network, &event), Err(Refusal::BadInbox));
+        assert_eq!(leader_step(ONE, &mut inbox, &mut full, &event), Err(Refusal::BadNetwork));
+        assert_eq!(deliver(ONE, &mut full, &commit.write(ONE).unwrap()), Err(Refusal::BadNetwork));
+        assert_eq!(Message::in_slot(ONE, &full, 0), Err(Refusal::OtherOrder));
+    }
+    assert_eq!(Message::read(ONE, &[0x30, 3, 1, 3]), Err(Refusal::OutOfRange));
+    assert_eq!(Message::read(ONE, &[0x10, 1]), Err(Refusal::UnknownMap));
+    assert_eq!(Message::read(ONE, &[0x70, 1, 1, 2]), Err(Refusal::UnknownMap));
 }
 
 #[test]
@@ -34,25 +67,25 @@ fn examples_7_to_10() {
         let event = Event::Vote { acceptor: 0, slot: 0 }.bytes();
         acceptor_step(ONE, &mut votes, &mut network, &event).map(|answer| (answer, votes))
     };
-    assert_eq!(at_2(&[0x19, 0, 2, 1]), Ok((Answer::Slot(1), vec![2, 2, 1])));
-    assert_eq!(at_2(&[0x19, 0, 1, 1]), Err(Refusal::NotEnabled));
-    assert_eq!(at_2(&[0x09, 0, 2]), Err(Refusal::NotEnabled));
-    assert_eq!(at_2(&[0x09, 0, 3]), Ok((Answer::Slot(1), vec![3, 0, 0])));
+    assert_eq!(at_2(&[0x39, 0, 2, 1, 1, 2]), Ok((Answer::Slot(1), vec![2, 2, 1])));
+    assert_eq!(at_2(&[0x39, 0, 1, 1, 1, 2]), Err(Refusal::NotEnabled));
+    assert_eq!(at_2(&[0x29, 0, 2, 1, 2]), Err(Refusal::NotEnabled));
+    assert_eq!(at_2(&[0x29, 0, 3, 1, 2]), Ok((Answer::Slot(1), vec![3, 0, 0])));
 }
 
 #[test]
 fn example_11() {
-    let mut inbox = table(&[&[0x1F, 0, 0, 3, 0, 1], &[0x1F, 0, 1, 3, 2, 2]]);
+    let mut inbox = table(&[&[0x3F, 0, 0, 3, 0, 1, 1, 2], &[0x3F, 0, 1, 3, 2, 2, 1, 2]]);
     let mut network = table(&[]);
     let event = Event::Phase2a { leader: 0, ins: 0, bal: 3 }.bytes();
     assert_eq!(leader_step(plan(3), &mut inbox, &mut network, &event), Ok(Answer::Slot(0)));
-    assert_eq!(network[..6], [0x19, 0, 3, 2, 0, 0]);
-    assert_eq!(inbox[12..18], [0x19, 0, 3, 2, 0, 0]);
+    assert_eq!(network[..8], [0x39, 0, 3, 2, 1, 2, 0, 0]);
+    assert_eq!(inbox[16..24], [0x39, 0, 3, 2, 1, 2, 0, 0]);
 }
 
 #[test]
 fn example_12() {
-    let reports: [&[u8]; 3] = [&[0x07, 0, 0, 1], &[0x07, 0, 1, 1], &[0x07, 0, 2, 1]];
+    let reports: [&[u8]; 3] = [&[0x27, 0, 0, 1, 1, 2], &[0x27, 0, 1, 1, 1, 2], &[0x27, 0, 2, 1, 1, 2]];
     let event = Event::Phase2a { leader: 0, ins: 0, bal: 1 }.bytes();
     let propose = |count: usize| leader_step(plan(4), &mut table(&reports[..count]), &mut table(&[]), &event);
     assert_eq!(propose(2), Err(Refusal::NotEnabled));
@@ -61,7 +94,7 @@ fn example_12() {
 
 #[test]
 fn example_13() {
-    let mut inbox = table(&[&[0x1B, 0, 0, 0, 1], &[0x1B, 0, 1, 3, 1]]);
+    let mut inbox = table(&[&[0x3B, 0, 0, 0, 1, 1, 2], &[0x3B, 0, 1, 3, 1, 1, 2]]);
     let event = Event::Commit { leader: 0 }.bytes();
     assert_eq!(leader_step(plan(3), &mut inbox, &mut table(&[]), &event), Err(Refusal::NotEnabled));
 }
@@ -73,7 +106,7 @@ fn rehearsal() {
     let lines = events.map(|event| record.step_bytes(&event).err().map_or(0, Refusal::number));
     assert_eq!(lines, [0, 0, 0, 0, 0, 12]);
     assert_eq!(record.ending(), Ok(Ending::Committed));
-    assert_eq!(record.slot(2), Some([0x10, 1, 0, 0, 0, 0]));
+    assert_eq!(record.slot(2), Some([0x30, 1, 1, 2, 0, 0, 0, 0]));
     assert_eq!(Message::in_slot(ONE, record.network(), 2), Ok(Message::Decision { val: Decision::Commit }));
     assert_eq!(Message::in_slot(ONE, record.network(), 3), Err(Refusal::NoMessage));
     assert_eq!(Message::in_slot(ONE, record.network(), 1024), Err(Refusal::NoMessage));
@@ -83,7 +116,7 @@ fn rehearsal() {
 /// The same order by a host for each role, which share only the messages that they send each other.
 #[test]
 fn a_host_for_each_role() {
-    let plan = Plan { rms: 2, acceptors: 3, leaders: 2 };
+    let plan = Plan { rms: 2, acceptors: 3, leaders: 2, order: 0x0102 };
     let network = || vec![0; slots_len(64)];
     let mut weights = [(vec![0; plan.states_len()], network()), (vec![0; plan.states_len()], network())];
     let mut acceptors = [0, 1, 2].map(|_| (vec![0; plan.votes_len()], network()));
@@ -116,9 +149,9 @@ fn a_host_for_each_role() {
 
 #[test]
 fn borrowed_and_owned_records() {
-    let plan = Plan { rms: 3, acceptors: 2, leaders: 2 };
+    let plan = Plan { rms: 3, acceptors: 2, leaders: 2, order: 0x0102 };
     let mut owned = Record::fresh(plan, 5, 4).unwrap();
-    let (mut w, mut q, mut n, mut i) = (vec![9; 3], vec![9; 18], vec![9; 30], vec![9; 48]);
+    let (mut w, mut q, mut n, mut i) = (vec![9; 3], vec![9; 18], vec![9; 40], vec![9; 64]);
     let mut lent = Record::of(plan, &mut w[..], &mut q[..], &mut n[..], &mut i[..]);
     assert_eq!(lent.step(Event::Prepare { rm: 0 }), Err(Refusal::BadStates));
     lent.open().unwrap();
@@ -128,12 +161,12 @@ fn borrowed_and_owned_records() {
         assert!(owned.states() == lent.states() && owned.votes() == lent.votes());
         assert!(owned.network() == lent.network() && owned.inboxes() == lent.inboxes());
     }
-    assert_eq!(owned.plan().inbox_range(48, 1), Some(24..48));
-    assert_eq!(owned.inboxes()[24..30], [0x1B, 1, 1, 0, 1, 0]);
+    assert_eq!(owned.plan().inbox_range(64, 1), Some(32..64));
+    assert_eq!(owned.inboxes()[32..40], [0x3B, 1, 1, 0, 1, 1, 2, 0]);
     assert_eq!(owned.clone().into_tables()[0], [0, 1, 0]);
     // Taken up again from bytes that were kept; a damaged byte is seen at the next call, and nothing is changed.
     let mut kept = owned.clone().into_tables();
-    kept[3][47] = 1;
+    kept[3][63] = 1;
     let [states, votes, network, inboxes] = kept;
     let mut damaged = Record::of(plan, states, votes, network, inboxes);
     let before = damaged.clone();
@@ -146,9 +179,9 @@ fn limits() {
     for (rms, acceptors, leaders) in
         [(0, 1, 1), (17, 1, 1), (1, 0, 1), (1, 8, 1), (1, 1, 0), (1, 1, 5), (255, 255, 255)]
     {
-        let plan = Plan { rms, acceptors, leaders };
+        let plan = Plan { rms, acceptors, leaders, order: 0x0102 };
         assert_eq!(Record::fresh(plan, 1, 1), Err(Refusal::BadPlan));
-        assert_eq!(Message::read(plan, &[0x10, 1]), Err(Refusal::BadPlan));
+        assert_eq!(Message::read(plan, &[0x30, 1, 1, 2]), Err(Refusal::BadPlan));
         assert_eq!(Message::Decision { val: Decision::Abort }.write(plan), Err(Refusal::BadPlan));
         assert_eq!(rm_step(plan, &mut [], &mut [], &[]), Err(Refusal::BadPlan));
         assert_eq!(acceptor_step(plan, &mut [], &mut [], &[]), Err(Refusal::BadPlan));
@@ -157,24 +190,24 @@ fn limits() {
         assert_eq!(deliver(plan, &mut [], &[]), Err(Refusal::BadPlan));
         assert_eq!(ending(plan, &[]), Err(Refusal::BadPlan));
     }
-    let largest = Plan { rms: 16, acceptors: 7, leaders: 4 };
+    let largest = Plan { rms: 16, acceptors: 7, leaders: 4, order: 0x0102 };
     assert!(Record::fresh(largest, MAX_SLOTS, MAX_SLOTS).is_ok());
     assert!(Record::fresh(largest, 0, 0).is_ok());
     assert_eq!(Record::fresh(largest, usize::MAX, 1), Err(Refusal::BadLengths));
     assert_eq!(Record::fresh(largest, 1, MAX_SLOTS + 1), Err(Refusal::BadLengths));
     assert_eq!(
         (largest.states_len(), largest.votes_len(), slots_len(1024), largest.inboxes_len(1024)),
-        (16, 336, 6144, 24576)
+        (16, 336, 8192, 32768)
     );
     assert_eq!(rm_step(ONE, &mut [0], &mut [], &[0, 0, 0, 0]), Err(Refusal::NetworkFull));
 }
 
 #[test]
 fn fields_of_the_reader_are_the_writers() {
-    let plan = Plan { rms: 16, acceptors: 7, leaders: 4 };
+    let plan = Plan { rms: 16, acceptors: 7, leaders: 4, order: 0x0102 };
     for number in 0..100_000u32 {
         let [a, b, c, d] = number.wrapping_mul(2_654_435_761).to_le_bytes();
-        let map = [0x09, 0x07, 0x1F, 0x19, 0x1B, 0x10, a][usize::from(a % 7)];
+        let map = [0x29, 0x27, 0x3F, 0x39, 0x3B, 0x30, a][usize::from(a % 7)];
         let fields = Fields { map, ins: b % 18, acc: c % 8, mbal: d, bal: a ^ b, val: c / 8 % 4 };
         let Ok(written) = fields.write(plan) else { continue };
         let read = Fields::read(plan, &written).expect("what was written is readable");
@@ -184,17 +217,29 @@ fn fields_of_the_reader_are_the_writers() {
     }
 }
 
+/// A known map has its ones and two bytes more; no other byte has a length.
+#[test]
+fn lengths() {
+    for map in 0..=255u8 {
+        let known = [0x29, 0x27, 0x3F, 0x39, 0x3B, 0x30].contains(&map);
+        assert_eq!(Message::length(map), if known { 2 + map.count_ones() as usize } else { 0 }, "{map:02X}");
+    }
+}
+
 /// What is delivered leaves a sound table and stands where it is said to; what is refused changes nothing.
 #[test]
 fn delivery_keeps_tables_sound() {
-    let plan = Plan { rms: 3, acceptors: 3, leaders: 1 };
+    let plan = Plan { rms: 3, acceptors: 3, leaders: 1, order: 0x0102 };
     let mut network = vec![0; slots_len(40)];
-    let (mut delivered, mut full) = (0, 0);
+    let (mut delivered, mut full, mut other) = (0, 0, 0);
     for number in 0..20_000u32 {
         let [a, b, c, d] = number.wrapping_mul(2_654_435_761).to_le_bytes();
-        let map = [0x09, 0x07, 0x1F, 0x19, 0x1B, 0x10, a][usize::from(a % 7)];
-        let bytes = [map, b % 4, c % 4, d % 5, b % 7, 1 + c % 3];
-        let bytes = &bytes[..(1 + map.count_ones() as usize).min(6)];
+        let map = [0x29, 0x27, 0x3F, 0x39, 0x3B, 0x30, a][usize::from(a % 7)];
+        // The order number is mostly the plan's.
+        let mut bytes = [map, b % 4, c % 4, d % 5, b % 7, 1 + c % 3, 0, 0];
+        let len = (2 + map.count_ones() as usize).min(8);
+        bytes[len - 2..len].copy_from_slice(&[1, if d % 8 == 0 { 3 } else { 2 }]);
+        let bytes = &bytes[..len];
         if number % 4000 == 0 {
             network.fill(0);
         }
@@ -207,6 +252,7 @@ fn delivery_keeps_tables_sound() {
             }
             Err(refusal) => {
                 full += usize::from(refusal == Refusal::NetworkFull);
+                other += usize::from(refusal == Refusal::OtherOrder);
                 assert_eq!(network, before);
             }
         }
@@ -214,12 +260,12 @@ fn delivery_keeps_tables_sound() {
         let judged = rm_step(plan, &mut [0; 3], &mut network, &Event::TakeDecision { rm: 0, slot: 65535 }.bytes());
         assert_eq!(judged, Err(Refusal::NoMessage));
     }
-    assert!(delivered > 1000 && full > 1000, "{delivered} {full}");
-    assert_eq!(deliver(plan, &mut [0; 7], b"?"), Err(Refusal::BadLengths));
-    assert_eq!(deliver(plan, &mut [1; 6], b"?"), Err(Refusal::BadNetwork));
-    assert_eq!(deliver(plan, &mut [], b"?"), Err(Refusal::UnknownMap));
-    assert_eq!(deliver(plan, &mut vec![0; slots_len(1025)], &[0x10, 1]), Err(Refusal::BadLengths));
-    assert_eq!(deliver(plan, &mut [], &[0x10, 1]), Err(Refusal::NetworkFull));
+    assert!(delivered > 1000 && full > 1000 && other > 100, "{delivered} {full} {other}");
+    assert_eq!(deliver(plan, &mut [0; 7], b"!"), Err(Refusal::BadLengths));
+    assert_eq!(deliver(plan, &mut [1; 8], b"!"), Err(Refusal::BadNetwork));
+    assert_eq!(deliver(plan, &mut [], b"!"), Err(Refusal::UnknownMap));
+    assert_eq!(deliver(plan, &mut vec![0; slots_len(1025)], &[0x30, 1, 1, 2]), Err(Refusal::BadLengths));
+    assert_eq!(deliver(plan, &mut [], &[0x30, 1, 1, 2]), Err(Refusal::NetworkFull));
 }
 
 #[test]
@@ -229,6 +275,6 @@ fn refusals_by_number_and_in_words() {
         let error: &dyn std::error::Error = &refusal;
         assert!(error.to_string().ends_with(&format!("({number})")));
     }
-    assert_eq!((Refusal::from_number(0), Refusal::from_number(18)), (None, None));
+    assert_eq!((Refusal::from_number(0), Refusal::from_number(19)), (None, None));
     assert_eq!(Refusal::NotEnabled.to_string(), "not enabled (12)");
 }

@@ -7,12 +7,19 @@ use Rattle.message.specs.Codec.Laws.{readMessage-number}
 use Rattle.codec.proofs.read_message.Statement.{statement}
 use Rattle.codec.proofs.read_message.Tie as tie
 
+message-refusal-requires : tie.Need-message-refusal-requires
+message-refusal-requires c κs = tt
+
+returns : tie.Need-returns
+returns c = refused-number _ _ (c .before .message-refusal .ensures) (c .if1 .taken)
+
+decode-message-requires : tie.Need-decode-message-requires
+decode-message-requires c κs = tt
+
+returns-2 : tie.Need-returns-2
+returns-2 c =
+    let at-number = c .before in
+    ap accepted (c .decode-message .ensures) ∙ readMessage-number _ _ (sym (at-number .before .message-refusal .ensures) ∙ at-number .if1 .left)
+
 pub read-message-spec : {M : Type 1} → statement M
-read-message-spec =
-    tie.close
-    (tie.spec
-    (λ c κs. tt)
-    (λ c. refused-number _ _ (c .before .message-refusal .ensures) (c .if1 .taken))
-    (λ c κs. tt)
-    (λ c. ap accepted (c .decode-message .ensures)
-    ∙ readMessage-number _ _ (sym (c .before .before .message-refusal .ensures) ∙ c .before .if1 .left)))
+read-message-spec = tie.close (tie.spec message-refusal-requires returns decode-message-requires returns-2)

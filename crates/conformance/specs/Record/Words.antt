@@ -249,39 +249,39 @@ pub inbox-replaced : (p : Plan) (inboxes : List ℕ) (l : ℕ) → l < p .leader
 inbox-replaced p inboxes l m box size =
     (inboxOf-with p inboxes l (omega arith) m box size, inboxOf-with-other p inboxes l (omega arith) m box size)
 
-pub table-length : (len : ℕ) → (isTableLength len ≡ true) ↔ ((count : ℕ) × (count ≤ 1024) × (len ≡ 6 * count))
+pub table-length : (len : ℕ) → (isTableLength len ≡ true) ↔ ((count : ℕ) × (count ≤ 1024) × (len ≡ 8 * count))
 unfolding isTableLength
 table-length len = (there, back)
   where
-    there : isTableLength len ≡ true → (count : ℕ) × (count ≤ 1024) × (len ≡ 6 * count)
+    there : isTableLength len ≡ true → (count : ℕ) × (count ≤ 1024) × (len ≡ 8 * count)
     there h =
         let t = both (eqb (len % slotSize) 0) (leb (len / slotSize) maxSlots) h in
-        let whole : len % 6 ≡ 0 = eqb-true _ _ (t .0) in
-        (len / 6, leb-true _ _ (t .1), omega arith)
+        let whole : len % 8 ≡ 0 = eqb-true _ _ (t .0) in
+        (len / 8, leb-true _ _ (t .1), omega arith)
 
-    back : (count : ℕ) × (count ≤ 1024) × (len ≡ 6 * count) → isTableLength len ≡ true
+    back : (count : ℕ) × (count ≤ 1024) × (len ≡ 8 * count) → isTableLength len ≡ true
     back (count, few, is) =
-        let whole : len % 6 ≡ 0 = omega arith in
-        let most : len / 6 ≤ 1024 = omega arith in
-        rw (eq-eqb (len % 6) 0 whole, le-leb (len / 6) 1024 most)
+        let whole : len % 8 ≡ 0 = omega arith in
+        let most : len / 8 ≤ 1024 = omega arith in
+        rw (eq-eqb (len % 8) 0 whole, le-leb (len / 8) 1024 most)
 
 pub inboxes-length : (p : Plan) (inboxes : List ℕ) → 0 < p .leaders
     → ((length inboxes % p .leaders ≡ 0) × (isTableLength (inboxSize p inboxes) ≡ true))
-    ↔ ((count : ℕ) × (count ≤ 1024) × (length inboxes ≡ p .leaders * (6 * count)))
+    ↔ ((count : ℕ) × (count ≤ 1024) × (length inboxes ≡ p .leaders * (8 * count)))
 unfolding inboxSize
 inboxes-length p inboxes some = (there, back)
   where
     there : (length inboxes % p .leaders ≡ 0) × (isTableLength (length inboxes / p .leaders) ≡ true)
-        → (count : ℕ) × (count ≤ 1024) × (length inboxes ≡ p .leaders * (6 * count))
+        → (count : ℕ) × (count ≤ 1024) × (length inboxes ≡ p .leaders * (8 * count))
     there (equal, whole) =
         let (count, few, is) = table-length (length inboxes / p .leaders) .0 whole in
         (count, few, sym (div-add-mod (length inboxes) (p .leaders)) ∙ ap₂ (λ (x y : ℕ). p .leaders * x + y) is equal ∙ add-zero _)
 
-    back : (count : ℕ) × (count ≤ 1024) × (length inboxes ≡ p .leaders * (6 * count))
+    back : (count : ℕ) × (count ≤ 1024) × (length inboxes ≡ p .leaders * (8 * count))
         → (length inboxes % p .leaders ≡ 0) × (isTableLength (length inboxes / p .leaders) ≡ true)
     back (count, few, is) = (
-      rw is (mul-mod-right (p .leaders) (6 * count)),
-      table-length (length inboxes / p .leaders) .1 (count, few, ap (λ (n : ℕ). n / p .leaders) is ∙ mul-div-right (6 * count) some),
+      rw is (mul-mod-right (p .leaders) (8 * count)),
+      table-length (length inboxes / p .leaders) .1 (count, few, ap (λ (n : ℕ). n / p .leaders) is ∙ mul-div-right (8 * count) some),
     )
 
 pub table-form : (p : Plan) (t : List ℕ) → isPlan p ≡ true → isTableLength (length t) ≡ true → (isTable p t ≡ true) ↔ HeldBy p t (messages p t)

@@ -1,8 +1,7 @@
 -- `decided::gather_votes` meets its contract: what was gathered and what is ahead make up what all messages say. Assumes nothing.
-use Prim.Native.Nat.{_+_, _*_, _-_, _≤_}
+use Prim.Native.Nat.{_-_, _≤_}
 use mathlib.Core.Logic.{⊎-elim}
 use mathlib.Core.Path.{sym, _∙_}
-use native.Mathlib.Omega.{arith}
 use borrow.Author.Needs.{needs}
 use Rattle.slots.specs.Table.Scan.{peekTable}
 use Rattle.slots.specs.View.Bytes.{leadingMessages}
@@ -20,47 +19,102 @@ Inv-loop plan inbox value some masks₀ count least flags₀ place₀ masks flag
 abbrev μ-loop : tie.MeasureT-loop
 μ-loop plan inbox value some masks₀ count least flags₀ place₀ masks flags place = count - place
 
+-- the way back: from a slot's vote to where the slot is known to be used, to the turn's test, and from the loop to the start
+abbrev at-used : tie.After-vote-step Inv-loop μ-loop → tie.Else1 Inv-loop μ-loop
+at-used c = c .before .before
+
+abbrev at-turn : tie.After-vote-step Inv-loop μ-loop → tie.In-loop Inv-loop μ-loop
+at-turn c = at-used c .before .before
+
+abbrev at-least : tie.At-loop Inv-loop μ-loop → tie.After-least-flags Inv-loop μ-loop
+at-least c = c .before
+
+abbrev at-start : tie.At-loop Inv-loop μ-loop → tie.Start Inv-loop μ-loop
+at-start c = at-least c .before .before .before
+
+cast-least-flags : tie.Need-cast-least-flags Inv-loop μ-loop
+cast-least-flags c = search needs
+
+shl-least-flags : tie.Need-shl-least-flags Inv-loop μ-loop
+shl-least-flags c = rms-bound _ (c .before .before .pre .0)
+
+sub-least-flags : tie.Need-sub-least-flags Inv-loop μ-loop
+sub-least-flags c = some-low _ (c .before .before .pre .0)
+
+least-flags-requires : tie.Need-least-flags-requires Inv-loop μ-loop
+least-flags-requires c κs = tt
+
+loop-holds : tie.Need-loop-holds Inv-loop μ-loop
+loop-holds c = let at-entry = c .before .before .before in (search needs, rw (at-entry .pre .1) (counts-start _ _ _ (at-entry .pre .0)))
+
+mul-at : tie.Need-mul-at Inv-loop μ-loop
+mul-at c = search needs
+
+shared-slice-read-if1 : tie.Need-shared-slice-read-if1 Inv-loop μ-loop
+shared-slice-read-if1 c = search needs
+
+returns : tie.Need-returns Inv-loop μ-loop
+returns c =
+    let at-test = c .before .before in
+    let at-loop = at-test .before in
+    flags-end _ (at-start at-loop .pre .0) _ _ (at-least at-loop .least-flags .ensures) _ _ _ _ (at-loop .loop .inv .1)
+    (ahead-unused _ _ (at-test .loop-test .taken) (c .if1 .taken))
+
+vote-step-requires : tie.Need-vote-step-requires Inv-loop μ-loop
+vote-step-requires c κs =
+    let at-loop = c .before .before .before .before in
+    (at-start at-loop .pre .0, search needs)
+
+returns-2 : tie.Need-returns-2 Inv-loop μ-loop
+returns-2 c =
+    let at-vote = c .before .before in
+    let at-test = at-turn at-vote in
+    let at-loop = at-test .before in
+    flags-early _ (at-start at-loop .pre .0) _ _ (at-least at-loop .least-flags .ensures) _ _ _ _
+    (vote-next _ (at-start at-loop .pre .0) _ _ _ _ (at-loop .loop .inv .1) (at-test .loop-test .taken) (at-used at-vote .if1 .left)
+    (λ j. at-used at-vote .before .shared-slice-known2 .given j .fits) _ (at-vote .vote-step .ensures))
+    (c .if3 .taken)
+
+add-place : tie.Need-add-place Inv-loop μ-loop
+add-place c = search needs
+
+loop-less : tie.Need-loop-less Inv-loop μ-loop
+loop-less c = search needs
+
+loop-again : tie.Need-loop-again Inv-loop μ-loop
+loop-again c =
+    let at-vote = c .before in
+    let at-test = at-turn at-vote in
+    let at-loop = at-test .before in (
+      search needs,
+      rw (⊎-elim (λ w. w .2) (λ w. w .1 ∙ sym (w .0 .left)) (c .if2 .came))
+          (vote-next _ (at-start at-loop .pre .0) _ _ _ _ (at-loop .loop .inv .1) (at-test .loop-test .taken) (at-used at-vote .if1 .left)
+          (λ j. at-used at-vote .before .shared-slice-known2 .given j .fits) _ (at-vote .vote-step .ensures)),
+    )
+
+returns-3 : tie.Need-returns-3 Inv-loop μ-loop
+returns-3 c =
+    let at-loop = c .before in
+    flags-end _ (at-start at-loop .pre .0) _ _ (at-least at-loop .least-flags .ensures) _ _ _ _ (at-loop .loop .inv .1)
+    (ahead-end _ _ (c .loop-test .left))
+
 pub gather-votes-spec : {M : Type 1} → statement M
 gather-votes-spec =
     tie.close
     (tie.spec
     Inv-loop
     μ-loop
-    (λ c. search needs)
-    (λ c. rms-bound _ (c .before .before .pre .0))
-    (λ c. some-low _ (c .before .before .pre .0))
-    (λ c κs. tt)
-    (λ c. (search needs, rw (c .before .before .before .pre .1) (counts-start _ _ _ (c .before .before .before .pre .0))))
-    (λ c. search needs)
-    (λ c. search needs)
-    (λ c. flags-end _ (c .before .before .before .before .before .before .before .pre .0) _ _
-    (c .before .before .before .before .least-flags .ensures) _ _ _ _ (c .before .before .before .loop .inv .1)
-    (ahead-unused _ _ (c .before .before .loop-test .taken) (c .if1 .taken)))
-    (λ c κs. (c .before .before .before .before .before .before .before .before .pre .0, search needs))
-    (λ c. flags-early _ (c .before .before .before .before .before .before .before .before .before .before .before .pre .0) _ _
-    (c .before .before .before .before .before .before .before .before .least-flags .ensures) _ _ _ _
-    (vote-next _ (c .before .before .before .before .before .before .before .before .before .before .before .pre .0) _ _ _ _
-    (c .before .before .before .before .before .before .before .loop .inv .1)
-    (c .before .before .before .before .before .before .loop-test .taken) (c .before .before .before .before .if1 .left)
-    (omega (
-      arith,
-      c .before .before .before .before .before .shared-slice-known2 .given
-          (c .before .before .before .before .before .before .before .loop .place * 6 + 3),
-    )) _ (c .before .before .vote-step .ensures))
-    (c .if3 .taken))
-    (λ c. search needs)
-    (λ c. search needs)
-    (λ c. (
-      search needs,
-      rw (⊎-elim (λ w. w .2) (λ w. w .1 ∙ sym (w .0 .left)) (c .if2 .came))
-          (vote-next _ (c .before .before .before .before .before .before .before .before .before .before .pre .0) _ _ _ _
-          (c .before .before .before .before .before .before .loop .inv .1) (c .before .before .before .before .before .loop-test .taken)
-          (c .before .before .before .if1 .left)
-          (omega (
-            arith,
-            c .before .before .before .before .shared-slice-known2 .given
-                (c .before .before .before .before .before .before .loop .place * 6 + 3),
-          )) _ (c .before .vote-step .ensures)),
-    ))
-    (λ c. flags-end _ (c .before .before .before .before .before .pre .0) _ _ (c .before .before .least-flags .ensures) _ _ _ _
-    (c .before .loop .inv .1) (ahead-end _ _ (c .loop-test .left))))
+    cast-least-flags
+    shl-least-flags
+    sub-least-flags
+    least-flags-requires
+    loop-holds
+    mul-at
+    shared-slice-read-if1
+    returns
+    vote-step-requires
+    returns-2
+    add-place
+    loop-less
+    loop-again
+    returns-3)

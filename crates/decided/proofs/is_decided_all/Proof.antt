@@ -5,12 +5,20 @@ use Rattle.decided.proofs.Deciding.{bad-plan, good-plan}
 use Rattle.decided.proofs.is_decided_all.Statement.{statement}
 use Rattle.decided.proofs.is_decided_all.Tie as tie
 
-pub is-decided-all-spec : {M : Type 1} → statement M
+is-plan-requires : tie.Need-is-plan-requires
+is-plan-requires c κs = tt
+
+returns : tie.Need-returns
+returns c = bad-plan _ (failed (c .before .is-plan .ensures) (c .if1 .taken)) _
+
+is-decided-requires : tie.Need-is-decided-requires
+is-decided-requires c κs = passed (c .before .is-plan .ensures) (c .if1 .left)
+
+returns-2 : tie.Need-returns-2
 unfolding quantify
-is-decided-all-spec =
-    tie.close
-    (tie.spec
-    (λ c κs. tt)
-    (λ c. bad-plan _ (failed (c .before .is-plan .ensures) (c .if1 .taken)) _)
-    (λ c κs. passed (c .before .is-plan .ensures) (c .if1 .left))
-    (λ c. good-plan _ (passed (c .before .before .is-plan .ensures) (c .before .if1 .left)) _ _ (c .is-decided .ensures)))
+returns-2 c =
+    let at-if1 = c .before in
+    good-plan _ (passed (at-if1 .before .is-plan .ensures) (at-if1 .if1 .left)) _ _ (c .is-decided .ensures)
+
+pub is-decided-all-spec : {M : Type 1} → statement M
+is-decided-all-spec = tie.close (tie.spec is-plan-requires returns is-decided-requires returns-2)

@@ -4,6 +4,12 @@ use Rattle.host_deliver.specs.Code.Laws.{delivery-coded}
 use Rattle.host_deliver.proofs.paxos_commit_deliver.Statement.{statement}
 use Rattle.host_deliver.proofs.paxos_commit_deliver.Tie as tie
 
+deliver-requires : tie.Need-deliver-requires
+deliver-requires c κs = tt
+
+answer-code-requires : tie.Need-answer-code-requires
+answer-code-requires c κs = tt
+
 same-length : tie.Need-same-length
 same-length c = search needs
 
@@ -11,4 +17,4 @@ returns : tie.Need-returns
 returns c = delivery-coded (c .before .before .before .deliver .ensures) (c .answer-code .ensures)
 
 pub paxos-commit-deliver-spec : {M : Type 1} → statement M
-paxos-commit-deliver-spec = tie.close (tie.spec (λ c κs. tt) (λ c κs. tt) same-length returns)
+paxos-commit-deliver-spec = tie.close (tie.spec deliver-requires answer-code-requires same-length returns)

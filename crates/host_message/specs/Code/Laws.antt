@@ -1,39 +1,47 @@
 -- The writer's answer by cases.
 --     hostWrite-plan, -map, -message     a plan out of range, a map of no message, and what document 01's writer answers
---     writeMessage-len                   the length is a byte
+--     written-refused, -bytes            the number of a writer's answer by cases
 -- Assumes nothing.
-use Prim.Native.Nat.{ℕ, _<_}
-use mathlib.Core.Bool.{Bool, true, false}
-use mathlib.Core.Path.{_≡_, refl}
+use Prim.Native.Nat.{ℕ, _*_}
+use mathlib.Core.Bool.{true, false, cond}
+use mathlib.Core.Path.{_≡_}
+use native.Mathlib.Decide.{ℕ-discrete}
 use native.Mathlib.Omega.{arith}
+use lib.Dec.{eqb}
+use borrow.Author.Tests.{eq-eqb, ne-eqb}
 use Rattle.message.specs.declared.Plan.{Plan}
 use Rattle.message.specs.declared.Message.{Message}
+use Rattle.message.specs.declared.Written.{Written}
 use Rattle.message.specs.Outcome.{accepted, refused, refuseIf}
 use Rattle.message.specs.Plan.{isPlan}
-use Rattle.message.specs.Form.{isInRange}
-use Rattle.message.specs.Form.Laws.{messageLength-bounds}
 use Rattle.message.specs.Codec.{writeMessage}
-use Rattle.message.specs.Codec.Laws.{writeMessage-plan, writeMessage-range, writeMessage-accepted}
+use Rattle.host_code.specs.Code.{packed}
 use Rattle.host_message.specs.Code.{messageOf, hostWrite, writtenCode}
 
 module _ (p : Plan) (map ins acc mbal bal val : ℕ) where
-  pub hostWrite-plan : isPlan p ≡ false → 1 ≡ writtenCode (hostWrite p map ins acc mbal bal val)
+  pub hostWrite-plan : isPlan p ≡ false → 256 ≡ writtenCode (hostWrite p map ins acc mbal bal val)
   unfolding hostWrite writtenCode refuseIf
   hostWrite-plan h = rw h
 
-  pub hostWrite-map : isPlan p ≡ true → (number : ℕ) → refused number ≡ messageOf map ins acc mbal bal val → number ≡ writtenCode (hostWrite p map ins acc mbal bal val)
+  pub hostWrite-map : isPlan p ≡ true → (number : ℕ) → refused number ≡ messageOf map ins acc mbal bal val
+      → 256 * number ≡ writtenCode (hostWrite p map ins acc mbal bal val)
   unfolding hostWrite writtenCode refuseIf
-  hostWrite-map h number e = rw (h, ← e) (omega arith)
+  hostWrite-map h number e = rw (h, ← e) (go (ℕ-discrete number 0))
+    where
+      go : Dec (number ≡ 0) → 256 * number ≡ cond (eqb number 0) 0 (256 * number)
+      go (yes z) = rw (eq-eqb number 0 z) (omega arith)
+      go (no n) = rw (ne-eqb number 0 n)
 
   pub hostWrite-message : isPlan p ≡ true → (m : Message) → accepted m ≡ messageOf map ins acc mbal bal val
       → writtenCode (writeMessage p m) ≡ writtenCode (hostWrite p map ins acc mbal bal val)
   unfolding hostWrite refuseIf
   hostWrite-message h m e = rw (h, ← e)
 
-pub writeMessage-len : (p : Plan) (m : Message) → writeMessage p m .len < 256
-writeMessage-len p m = go (isPlan p) (isInRange p m) refl refl
-  where
-    go : (plan range : Bool) → isPlan p ≡ plan → isInRange p m ≡ range → writeMessage p m .len < 256
-    go false range h i = rw (writeMessage-plan p m h) (omega arith)
-    go true false h i = rw (writeMessage-range p m h i) (omega arith)
-    go true true h i = rw (writeMessage-accepted p m h i) (omega (arith, messageLength-bounds p m .1))
+-- the number by cases
+pub written-refused : (w : Written) → (w .number ≡ 0 → ⊥) → 256 * w .number ≡ writtenCode w
+unfolding writtenCode
+written-refused w n = rw (ne-eqb (w .number) 0 n)
+
+pub written-bytes : (w : Written) → w .number ≡ 0 → packed (w .bytes) ≡ writtenCode w
+unfolding writtenCode
+written-bytes w z = rw (eq-eqb (w .number) 0 z)

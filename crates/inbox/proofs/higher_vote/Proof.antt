@@ -5,13 +5,23 @@ use Rattle.inbox.specs.Inbox.{higher}
 use Rattle.inbox.proofs.higher_vote.Statement.{statement}
 use Rattle.inbox.proofs.higher_vote.Tie as tie
 
-pub higher-vote-spec : {M : Type 1} → statement M
+enum-told : tie.Need-enum-told
+enum-told c = search needs
+
+enum-known-first : tie.Need-enum-known-first
+enum-known-first c = search needs
+
+returns : tie.Need-returns
 unfolding higher
-higher-vote-spec =
-    tie.close
-    (tie.spec
-    (λ c. search needs)
-    (λ c. search needs)
-    (λ c. rw (c .before .before .first .given .1, lt-ltb _ _ (c .if1 .taken)))
-    (λ c. rw (c .enum-told .given .1))
-    (λ c. rw (c .before .before .first .given .1, le-ltb _ _ (c .if1 .left))))
+returns c = let at-first = c .before .before in rw (at-first .first .given .1, lt-ltb _ _ (c .if1 .taken))
+
+returns-2 : tie.Need-returns-2
+unfolding higher
+returns-2 c = rw (c .enum-told .given .1)
+
+returns-3 : tie.Need-returns-3
+unfolding higher
+returns-3 c = let at-first = c .before .before in rw (at-first .first .given .1, le-ltb _ _ (c .if1 .left))
+
+pub higher-vote-spec : {M : Type 1} → statement M
+higher-vote-spec = tie.close (tie.spec enum-told enum-known-first returns returns-2 returns-3)

@@ -17,7 +17,7 @@ use Rattle.message.specs.declared.Message.{Message}
 use Rattle.message.specs.declared.Written.{Written}
 use Rattle.message.specs.Outcome.{accepted, refused}
 use Rattle.message.specs.Plan.{isPlan}
-use Rattle.message.specs.Form.{slotSize, mapLength, decode, isInRange, bytesOf}
+use Rattle.message.specs.Form.{slotSize, mapLength, decode, isInRange, hasOrder, bytesOf}
 use Rattle.message.specs.Form.Laws.{length-slotOf, drop-slotOf, take-slotOf}
 use Rattle.message.specs.Codec.{readMessage, writeMessage}
 use Rattle.message.specs.Codec.Laws.{writeMessage-plan, writeMessage-range, writeMessage-accepted}
@@ -33,13 +33,15 @@ pub reader-ruled : (p : Plan) (bytes : List ℕ)
     (row 15 ((length bytes ≡ 0) ⊎ (mapLength (getD bytes 0 0) ≡ 0))
     (row 16 (length bytes ≡ mapLength (getD bytes 0 0) → ⊥)
     (row 17 (isInRange p (decode bytes) ≡ false)
-    end))))
+    (row 18 (hasOrder p (mapLength (getD bytes 0 0)) bytes ≡ false)
+    end)))))
 unfolding readMessage Ruled
 reader-ruled p bytes =
     ruled-row _ 1 _ _ _ (not-true (isPlan p)) (clash (isPlan p))
     (λ plan. ruled-both _ _ 15 _ _ _ (λ h. inl (eqb-true _ _ h)) (λ h. inr (eqb-true _ _ h)) known
     (λ some map. ruled-row _ 16 _ _ _ (λ h. eqb-false _ _ (not-true _ h)) (λ h n. n (eqb-true _ _ (not-false _ h)))
-    (λ len. ruled-row _ 17 _ _ _ (not-true (isInRange p (decode bytes))) (clash (isInRange p (decode bytes))) (λ range. tt))))
+    (λ len. ruled-row _ 17 _ _ _ (not-true (isInRange p (decode bytes))) (clash (isInRange p (decode bytes)))
+    (λ range. ruled-row _ 18 _ _ _ (not-true (hasOrder p (mapLength (getD bytes 0 0)) bytes)) (clash (hasOrder p (mapLength (getD bytes 0 0)) bytes)) (λ order. tt)))))
   where
     known : eqb (length bytes) 0 ≡ false → eqb (mapLength (getD bytes 0 0)) 0 ≡ false → (length bytes ≡ 0) ⊎ (mapLength (getD bytes 0 0) ≡ 0) → ⊥
     known h k (inl e) = eqb-false _ _ h e

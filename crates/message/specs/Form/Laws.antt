@@ -1,30 +1,36 @@
 -- The byte form: every message has one, of the length that its map stands for, and decoding gives the message back.
 --     messageCases          the six forms of a message, for a rule that is computed at each
 --     messageLength-length, -bounds, mapLength-bytesOf     the length of a form, and that its map stands for it
---     length-slotOf, first-slotOf, take-slotOf, drop-slotOf   a form followed by zeros
+--     length-slotOf, first-slotOf, take-slotOf, drop-slotOf, slotOf-parts, mapLength-slotOf, slotOf-used     a form followed by zeros
 --     mapLength-bound       no message is longer than a slot
---     first-bytesOf         no map is 0
+--     mapLength-zero, first-bytesOf     no map is 0
 --     knownMap              a rule that holds of the six known maps holds of every map whose length is not 0
+--     mapLength-least       such a length is four at least
 --     mapLength-unknown     any other map has no length
 --     decode-bytesOf, decode-slotOf        decoding the form of a message, or its slot, gives the message
---     bytesOf-decode        bytes with a known map and its length are the form of what they decode to
+--     bytesOf-decode        bytes with a known map, its length and the order number are the form of what they decode to
+--     hasOrder-bytes, order-compared     what is compared of the order number, byte by byte and as one number
+--     hasOrder-bytesOf, -other, bytesOf-order     a form has its plan's order number and no other; no form is of two orders
 -- Laws/Table.antt has the rule of a constant table. Assumes nothing.
 pub mod Table
-use Prim.Native.Nat.{ℕ, zero, suc, _+_, _-_, _≤_, _<_, zero-le}
-use mathlib.Core.Bool.{Bool, _||_}
-use mathlib.Core.List.{List, [], _∷_}
-use mathlib.Core.Path.{_≡_, refl, sym, ap, subst}
+use Prim.Native.Nat.{ℕ, zero, suc, _+_, _*_, _-_, _/_, _%_, _≤_, _<_, zero-le}
+use mathlib.Core.Bool.{Bool, true, false, _&&_, _||_, false≢true}
+use mathlib.Core.List.{List, [], _∷_, _++_}
+use mathlib.Core.Path.{_≡_, refl, sym, _∙_, ap, ap₂, subst}
 use native.Mathlib.Decide.{decLt, ℕ-discrete}
 use native.Mathlib.Omega.{arith}
 use lib.Dec.{T, eqb, leb, eqb→eq, leb→le, lit≤}
-use lib.ListN.{length, getD, take, drop, replicate, length-append, length-replicate, drop-of-length-le, List·getD-eq-default, List·getD-append}
+use lib.ListN.{length, getD, take, drop, replicate, length-append, length-replicate, drop-of-length-le, take-append-drop}
+use lib.ListN.{List·getD-eq-default, List·getD-append}
 use lib.Seq.{drop-cons, take-append-seam, drop-append-seam}
-use borrow.Author.Tests.{ne-eqb, eqb-false}
+use borrow.Author.Tests.{eq-eqb, ne-eqb, eqb-true, eqb-false}
+use Rattle.message.specs.Outcome.Laws.{both}
 use Rattle.message.specs.declared.Plan.{Plan}
 use Rattle.message.specs.declared.Vote.the-variants.{None, Cast}
 use Rattle.message.specs.declared.Message.{Message}
 use Rattle.message.specs.declared.Message.the-variants.{Phase1a, Phase1b, Phase2a, Phase2b, Decision}
-use Rattle.message.specs.Form.{bytesOf, bytesOf1b, messageLength, slotSize, slotOf, mapLengths, mapLength, fieldsMessage, decode}
+use Rattle.message.specs.Form.{map1a, map1b, map1bVote, map2a, map2b, mapDecision}
+use Rattle.message.specs.Form.{bytesOf, bytesOf1b, messageLength, slotSize, slotOf, mapLengths, mapLength, fieldsMessage, decode, hasOrder}
 use Rattle.message.specs.Form.Laws.Table.{every-at}
 
 -- what is computed for each kind of message, at both kinds of vote
@@ -79,6 +85,17 @@ pub drop-slotOf : (p : Plan) (m : Message) → drop (messageLength p m) (slotOf 
 unfolding slotOf messageLength
 drop-slotOf p m = drop-append-seam (bytesOf p m) _
 
+-- bytes that are a message's followed by zeros are its slot
+pub slotOf-parts : (p : Plan) (m : Message) (s : List ℕ)
+    → take (messageLength p m) s ≡ bytesOf p m → drop (messageLength p m) s ≡ replicate (slotSize - messageLength p m) 0 → s ≡ slotOf p m
+slotOf-parts p m s front rest =
+    sym (take-append-drop (messageLength p m) s)
+    ∙ ap₂ (λ (a b : List ℕ). a ++ b) (front ∙ sym (take-slotOf p m)) (rest ∙ sym (drop-slotOf p m))
+    ∙ take-append-drop (messageLength p m) (slotOf p m)
+
+pub mapLength-slotOf : (p : Plan) (m : Message) → mapLength (getD (slotOf p m) 0 0) ≡ messageLength p m
+mapLength-slotOf p m = ap mapLength (first-slotOf p m) ∙ mapLength-bytesOf p m
+
 -- no message is longer than a slot
 fitsRule : ℕ → ℕ → Bool
 fitsRule map len = leb len slotSize
@@ -86,56 +103,69 @@ fitsRule map len = leb len slotSize
 pub mapLength-bound : (map : ℕ) → mapLength map ≤ slotSize
 unfolding mapLength mapLengths fitsRule
 mapLength-bound map =
-    elim (decLt map 32) [
+    elim (decLt map 64) [
       | yes h ↦ leb→le _ _ (every-at fitsRule mapLengths tt map h)
       | no h ↦ rw (List·getD-eq-default mapLengths 0 {n = map} (omega arith)) zero-le
     ]
 
 -- no map is 0
+pub mapLength-zero : mapLength 0 ≡ 0
+unfolding mapLength mapLengths
+mapLength-zero = refl
+
 pub first-bytesOf : (p : Plan) (m : Message) → getD (bytesOf p m) 0 0 ≡ 0 → ⊥
 unfolding bytesOf bytesOf1b
 first-bytesOf p =
     messageCases _
-    (λ i b. eqb-false 9 0 refl)
-    (λ i a m. eqb-false 7 0 refl)
-    (λ i a m b v. eqb-false 31 0 refl)
-    (λ i b v. eqb-false 25 0 refl)
-    (λ i a b v. eqb-false 27 0 refl)
-    (λ v. eqb-false 16 0 refl)
+    (λ i b. eqb-false map1a 0 refl)
+    (λ i a m. eqb-false map1b 0 refl)
+    (λ i a m b v. eqb-false map1bVote 0 refl)
+    (λ i b v. eqb-false map2a 0 refl)
+    (λ i a b v. eqb-false map2b 0 refl)
+    (λ v. eqb-false mapDecision 0 refl)
+
+pub slotOf-used : (p : Plan) (m : Message) → getD (slotOf p m) 0 0 ≡ 0 → ⊥
+slotOf-used p m e = first-bytesOf p m (sym (first-slotOf p m) ∙ e)
 
 -- an entry is 0 unless its place is a known map
 unknownRule : ℕ → ℕ → Bool
-unknownRule map len = eqb len 0 || (eqb map 0x09 || (eqb map 0x07 || (eqb map 0x1F || (eqb map 0x19 || (eqb map 0x1B || eqb map 0x10)))))
+unknownRule map len = eqb len 0 || (eqb map map1a || (eqb map map1b || (eqb map map1bVote || (eqb map map2a || (eqb map map2b || eqb map mapDecision)))))
 
 -- a rule that holds of the six known maps holds of every map with a length
-pub knownMap : (P : ℕ → Type 0) → P 0x09 → P 0x07 → P 0x1F → P 0x19 → P 0x1B → P 0x10 → (map : ℕ) → (mapLength map ≡ 0 → ⊥) → P map
+pub knownMap : (P : ℕ → Type 0) → P map1a → P map1b → P map1bVote → P map2a → P map2b → P mapDecision → (map : ℕ) → (mapLength map ≡ 0 → ⊥) → P map
 unfolding mapLength mapLengths unknownRule
-knownMap P p09 p07 p1F p19 p1B p10 map known = under (decLt map 32)
+knownMap P of1a of1b of1bVote of2a of2b ofDecision map known = under (decLt map 64)
   where
     or : (k : ℕ) → P k → (b : Bool) → T (eqb map k || b) → (T b → P map) → P map
     or k pk b t rest = elim (ℕ-discrete map k) [ yes e ↦ subst P (sym e) pk | no n ↦ rest (rw (ne-eqb map k n) at t) ]
 
-    entry : map < 32 → P map
+    entry : map < 64 → P map
     entry h =
         let t = every-at unknownRule mapLengths tt map h in
-        or 0x09 p09 _ (rw (ne-eqb _ _ known) at t)
-        (λ t. or 0x07 p07 _ t
-        (λ t. or 0x1F p1F _ t
-        (λ t. or 0x19 p19 _ t
-        (λ t. or 0x1B p1B _ t
-        (λ t. subst P (sym (eqb→eq map 0x10 t)) p10)))))
+        or map1a of1a _ (rw (ne-eqb _ _ known) at t)
+        (λ t. or map1b of1b _ t
+        (λ t. or map1bVote of1bVote _ t
+        (λ t. or map2a of2a _ t
+        (λ t. or map2b of2b _ t
+        (λ t. subst P (sym (eqb→eq map mapDecision t)) ofDecision)))))
 
-    under : Dec (map < 32) → P map
+    under : Dec (map < 64) → P map
     under (yes h) = entry h
     under (no h) = absurd (known (List·getD-eq-default mapLengths 0 {n = map} (omega arith)))
 
+-- and that is four at least
+pub mapLength-least : (map : ℕ) → (mapLength map ≡ 0 → ⊥) → 4 ≤ mapLength map
+unfolding mapLength mapLengths
+mapLength-least = knownMap (λ (map : ℕ). 4 ≤ mapLength map) (lit≤ tt) (lit≤ tt) (lit≤ tt) (lit≤ tt) (lit≤ tt) (lit≤ tt)
+
 -- any other map has no length
-pub mapLength-unknown : (map : ℕ) → (map ≡ 0x09 → ⊥) → (map ≡ 0x07 → ⊥) → (map ≡ 0x1F → ⊥) → (map ≡ 0x19 → ⊥) → (map ≡ 0x1B → ⊥) → (map ≡ 0x10 → ⊥)
+pub mapLength-unknown : (map : ℕ)
+    → (map ≡ map1a → ⊥) → (map ≡ map1b → ⊥) → (map ≡ map1bVote → ⊥) → (map ≡ map2a → ⊥) → (map ≡ map2b → ⊥) → (map ≡ mapDecision → ⊥)
     → mapLength map ≡ 0
-mapLength-unknown map n09 n07 n1F n19 n1B n10 =
+mapLength-unknown map not1a not1b not1bVote not2a not2b notDecision =
     elim (ℕ-discrete (mapLength map) 0) [
       | yes e ↦ e
-      | no known ↦ absurd (knownMap (λ (k : ℕ). map ≡ k → ⊥) n09 n07 n1F n19 n1B n10 map known refl)
+      | no known ↦ absurd (knownMap (λ (k : ℕ). map ≡ k → ⊥) not1a not1b not1bVote not2a not2b notDecision map known refl)
     ]
 
 pub decode-bytesOf : (p : Plan) (m : Message) → decode (bytesOf p m) ≡ m
@@ -160,17 +190,66 @@ drop-firsts (suc n) k l e = rw (drop-cons l k 0 (omega arith)) (ap (λ (r : List
 
 -- the fields of `bytes` with `map` in the first place make a message whose form is `bytes`
 Formed : Plan → List ℕ → ℕ → Type 0
-Formed p bytes map = getD bytes 0 0 ≡ map → length bytes ≡ mapLength map → bytesOf p (fieldsMessage map (getD bytes 1 0) (getD bytes 2 0) (getD bytes 3 0)
-    (getD bytes 4 0) (getD bytes 5 0)) ≡ bytes
+Formed p bytes map = getD bytes 0 0 ≡ map → length bytes ≡ mapLength map → hasOrder p (mapLength map) bytes ≡ true
+    → bytesOf p (fieldsMessage map (getD bytes 1 0) (getD bytes 2 0) (getD bytes 3 0) (getD bytes 4 0) (getD bytes 5 0)) ≡ bytes
 
-pub bytesOf-decode : (p : Plan) (bytes : List ℕ) → (mapLength (getD bytes 0 0) ≡ 0 → ⊥) → length bytes ≡ mapLength (getD bytes 0 0) → bytesOf p (decode bytes) ≡ bytes
-unfolding decode Formed bytesOf bytesOf1b fieldsMessage mapLength mapLengths firsts
-bytesOf-decode p bytes known n =
+pub bytesOf-decode : (p : Plan) (bytes : List ℕ) → (mapLength (getD bytes 0 0) ≡ 0 → ⊥) → length bytes ≡ mapLength (getD bytes 0 0)
+    → hasOrder p (mapLength (getD bytes 0 0)) bytes ≡ true → bytesOf p (decode bytes) ≡ bytes
+unfolding decode Formed bytesOf bytesOf1b fieldsMessage mapLength mapLengths firsts hasOrder
+bytesOf-decode p bytes known n order =
     knownMap (Formed p bytes)
-    (λ h n. rw h at (sym (drop-firsts 3 0 bytes n)))
-    (λ h n. rw h at (sym (drop-firsts 4 0 bytes n)))
-    (λ h n. rw h at (sym (drop-firsts 6 0 bytes n)))
-    (λ h n. rw h at (sym (drop-firsts 4 0 bytes n)))
-    (λ h n. rw h at (sym (drop-firsts 5 0 bytes n)))
-    (λ h n. rw h at (sym (drop-firsts 2 0 bytes n)))
-    (getD bytes 0 0) known refl n
+    (λ h n o. let b = ends 3 o in rw (h, b .0, b .1) at (sym (drop-firsts 5 0 bytes n)))
+    (λ h n o. let b = ends 4 o in rw (h, b .0, b .1) at (sym (drop-firsts 6 0 bytes n)))
+    (λ h n o. let b = ends 6 o in rw (h, b .0, b .1) at (sym (drop-firsts 8 0 bytes n)))
+    (λ h n o. let b = ends 4 o in rw (h, b .0, b .1) at (sym (drop-firsts 6 0 bytes n)))
+    (λ h n o. let b = ends 5 o in rw (h, b .0, b .1) at (sym (drop-firsts 7 0 bytes n)))
+    (λ h n o. let b = ends 2 o in rw (h, b .0, b .1) at (sym (drop-firsts 4 0 bytes n)))
+    (getD bytes 0 0) known refl n order
+  where
+    ends : (k : ℕ) → (eqb (getD bytes k 0) (p .order / 256) && eqb (getD bytes (suc k) 0) (p .order % 256)) ≡ true
+        → (getD bytes k 0 ≡ p .order / 256) × (getD bytes (suc k) 0 ≡ p .order % 256)
+    ends k o = let b = both (eqb (getD bytes k 0) (p .order / 256)) _ o in (eqb-true _ _ (b .0), eqb-true _ _ (b .1))
+
+-- what is compared: each byte with its half of the number; or both as one number
+pub hasOrder-bytes : (p : Plan) (len : ℕ) (bytes : List ℕ)
+    → hasOrder p len bytes ≡ (eqb (getD bytes (len - 2) 0) (p .order / 256) && eqb (getD bytes (len - 1) 0) (p .order % 256))
+unfolding hasOrder
+hasOrder-bytes p len bytes = refl
+
+pub order-compared : (high low order : ℕ) → low < 256 → eqb (256 * high + low) order ≡ (eqb high (order / 256) && eqb low (order % 256))
+order-compared high low order small = go (ℕ-discrete high (order / 256)) (ℕ-discrete low (order % 256))
+  where
+    go : Dec (high ≡ order / 256) → Dec (low ≡ order % 256) → eqb (256 * high + low) order ≡ (eqb high (order / 256) && eqb low (order % 256))
+    go (yes e) (yes f) = rw (eq-eqb high (order / 256) e, eq-eqb low (order % 256) f) (eq-eqb (256 * high + low) order (omega arith))
+    go (yes e) (no f) = rw (eq-eqb high (order / 256) e, ne-eqb low (order % 256) f) (ne-eqb (256 * high + low) order (λ is. f (omega arith)))
+    go (no e) d = rw (ne-eqb high (order / 256) e) (ne-eqb (256 * high + low) order (λ is. e (omega arith)))
+
+-- a form has the plan's order number, and no other
+pub hasOrder-bytesOf : (p : Plan) (m : Message) → hasOrder p (messageLength p m) (bytesOf p m) ≡ true
+unfolding hasOrder messageLength bytesOf bytesOf1b
+hasOrder-bytesOf p = messageCases _ (λ i b. same) (λ i a m. same) (λ i a m b v. same) (λ i b v. same) (λ i a b v. same) (λ v. same)
+  where
+    same : (eqb (p .order / 256) (p .order / 256) && eqb (p .order % 256) (p .order % 256)) ≡ true
+    same = rw (eq-eqb (p .order / 256) _ refl, eq-eqb (p .order % 256) _ refl)
+
+pub hasOrder-other : (p q : Plan) → (p .order ≡ q .order → ⊥) → (m : Message) → hasOrder p (messageLength q m) (bytesOf q m) ≡ false
+unfolding hasOrder messageLength bytesOf bytesOf1b
+hasOrder-other p q differs = messageCases _ (λ i b. other) (λ i a m. other) (λ i a m b v. other) (λ i b v. other) (λ i a b v. other) (λ v. other)
+  where
+    go : Dec (q .order / 256 ≡ p .order / 256) → Dec (q .order % 256 ≡ p .order % 256)
+        → (eqb (q .order / 256) (p .order / 256) && eqb (q .order % 256) (p .order % 256)) ≡ false
+    go (yes h) (yes l) = absurd (differs (omega arith))
+    go (yes h) (no l) = rw (eq-eqb _ _ h, ne-eqb _ _ l)
+    go (no h) d = rw (ne-eqb _ _ h)
+
+    other : (eqb (q .order / 256) (p .order / 256) && eqb (q .order % 256) (p .order % 256)) ≡ false
+    other = go (ℕ-discrete _ _) (ℕ-discrete _ _)
+
+-- two orders have no form in common
+pub bytesOf-order : (p q : Plan) (m n : Message) → (p .order ≡ q .order → ⊥) → bytesOf p m ≡ bytesOf q n → ⊥
+bytesOf-order p q m n differs e =
+    false≢true (sym (hasOrder-other p q differs n)
+    ∙ ap (λ (len : ℕ). hasOrder p len (bytesOf q n)) (sym (mapLength-bytesOf q n))
+    ∙ ap (λ (l : List ℕ). hasOrder p (mapLength (getD l 0 0)) l) (sym e)
+    ∙ ap (λ (len : ℕ). hasOrder p len (bytesOf p m)) (mapLength-bytesOf p m)
+    ∙ hasOrder-bytesOf p m)

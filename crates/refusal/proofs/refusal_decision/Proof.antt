@@ -1,22 +1,50 @@
 -- `refusal::refusal_decision` meets its contract: the length is the table's entry, and each branch decides one field. Assumes nothing.
-use mathlib.Core.Path.{_∙_, sym, ap}
+use mathlib.Core.Path.{_∙_, sym}
 use lib.Dec.{lit<}
-use Rattle.message.specs.Form.{isInRange, mapLength, mapLengths}
-use Rattle.message.specs.Codec.Laws.{formNumber-length, formNumber-range, formNumber-none}
+use Rattle.message.specs.Form.Maps.{length-decision, decoded-decision}
+use Rattle.message.specs.Codec.Laws.{shape-length, shape-range, shape-none}
 use Rattle.message.proofs.Guards.{guards, passed, failed, within}
+use Rattle.refusal.proofs.Slices.{whole, not-whole}
 use Rattle.refusal.proofs.refusal_decision.Statement.{statement}
 use Rattle.refusal.proofs.refusal_decision.Tie as tie
 
+map-length-requires : tie.Need-map-length-requires
+map-length-requires c κs = tt
+
+returns : tie.Need-returns
+returns c =
+    let at-start = c .before .before .before in
+    shape-length _ _ _ (at-start .pre .1) (not-whole (c .if1 .taken) (c .before .map-length .ensures) (at-start .pre .0))
+
+shared-slice-read-is-value : tie.Need-shared-slice-read-is-value
+shared-slice-read-is-value c =
+    let at-length = c .before in
+    within (whole (at-length .if1 .left) (at-length .before .map-length .ensures) (at-length .before .before .before .pre .0) ∙ length-decision) (lit< tt)
+
+is-value-requires : tie.Need-is-value-requires
+is-value-requires c κs = tt
+
+returns-2 : tie.Need-returns-2
+returns-2 c =
+    let at-length = c .before .before .before in
+    let at-start = at-length .before .before .before in
+    shape-range _ _ _ (at-start .pre .1) (whole (at-length .if1 .left) (at-length .before .map-length .ensures) (at-start .pre .0))
+    (rw (decoded-decision _ _ (at-start .pre .1 .first)) (sym (failed (c .before .is-value .ensures) (c .if2 .taken)) ∙ search guards))
+
+returns-3 : tie.Need-returns-3
+returns-3 c =
+    let at-length = c .before .before .before in
+    let at-start = at-length .before .before .before in
+    shape-none _ _ _ (at-start .pre .1) (whole (at-length .if1 .left) (at-length .before .map-length .ensures) (at-start .pre .0))
+    (rw (decoded-decision _ _ (at-start .pre .1 .first)) (sym (passed (c .before .is-value .ensures) (c .if2 .left)) ∙ search guards))
+
 pub refusal-decision-spec : {M : Type 1} → statement M
-unfolding isInRange mapLength mapLengths
 refusal-decision-spec =
     tie.close
     (tie.spec
-    (λ c κs. tt)
-    (λ c. formNumber-length _ _ _ _ (λ n. c .if1 .taken (n ∙ sym (c .before .map-length .ensures))))
-    (λ c. within (c .before .if1 .left ∙ c .before .before .map-length .ensures ∙ ap mapLength (c .before .before .before .before .pre)) (lit< tt))
-    (λ c κs. tt)
-    (λ c. formNumber-range _ _ _ _ (c .before .before .before .if1 .left ∙ c .before .before .before .before .map-length .ensures) (sym (failed
-    (c .before .is-value .ensures) (c .if2 .taken)) ∙ search guards))
-    (λ c. formNumber-none _ _ _ _ (c .before .before .before .if1 .left ∙ c .before .before .before .before .map-length .ensures) (sym (passed
-    (c .before .is-value .ensures) (c .if2 .left)) ∙ search guards)))
+    map-length-requires
+    returns
+    shared-slice-read-is-value
+    is-value-requires
+    returns-2
+    returns-3)

@@ -16,48 +16,50 @@ use borrow.Author.Tests.{lt-ltb, le-ltb, ltb-true, ltb-false}
 use Rattle.message.specs.declared.Plan.{Plan}
 use Rattle.message.specs.Outcome.{accepted, refused, refuseIf, numberOf}
 use Rattle.message.specs.Plan.{isPlan}
-use Rattle.rehearsal_input.specs.Input.{planOf, planIn}
+use Rattle.rehearsal_input.specs.Input.{planSize, planOf, planIn}
 
 module _ (input : List ℕ) where
-  pub planIn-short : length input < 3 → planIn input ≡ refused 1
+  pub planIn-short : length input < planSize → planIn input ≡ refused 1
   unfolding planIn refuseIf
-  planIn-short h = rw (lt-ltb (length input) 3 h)
+  planIn-short h = rw (lt-ltb (length input) planSize h)
 
-  pub planIn-bad : 3 ≤ length input → isPlan (planOf input) ≡ false → planIn input ≡ refused 1
+  pub planIn-bad : planSize ≤ length input → isPlan (planOf input) ≡ false → planIn input ≡ refused 1
   unfolding planIn refuseIf
-  planIn-bad h bad = rw (le-ltb (length input) 3 h, bad)
+  planIn-bad h bad = rw (le-ltb (length input) planSize h, bad)
 
-  pub planIn-good : 3 ≤ length input → isPlan (planOf input) ≡ true → planIn input ≡ accepted (planOf input)
+  pub planIn-good : planSize ≤ length input → isPlan (planOf input) ≡ true → planIn input ≡ accepted (planOf input)
   unfolding planIn refuseIf
-  planIn-good h good = rw (le-ltb (length input) 3 h, good)
+  planIn-good h good = rw (le-ltb (length input) planSize h, good)
 
 pub planIn-number : (input : List ℕ) → numberOf (planIn input) ≤ 1
 unfolding planIn refuseIf
-planIn-number input = go (ltb (length input) 3) refl (isPlan (planOf input)) refl
+planIn-number input = go (ltb (length input) planSize) refl (isPlan (planOf input)) refl
   where
-    go : (short : Bool) → ltb (length input) 3 ≡ short → (good : Bool) → isPlan (planOf input) ≡ good → numberOf (planIn input) ≤ 1
+    go : (short : Bool) → ltb (length input) planSize ≡ short → (good : Bool) → isPlan (planOf input) ≡ good → numberOf (planIn input) ≤ 1
     go true s good g = rw s (omega arith)
     go false s false g = rw (s, g) (omega arith)
     go false s true g = rw (s, g) (omega arith)
 
 pub planIn-is : (input : List ℕ) (p : Plan) → planIn input ≡ accepted p → isPlan p ≡ true
 unfolding planIn refuseIf
-planIn-is input p = go (ltb (length input) 3) refl (isPlan (planOf input)) refl
+planIn-is input p = go (ltb (length input) planSize) refl (isPlan (planOf input)) refl
   where
-    go : (short : Bool) → ltb (length input) 3 ≡ short → (good : Bool) → isPlan (planOf input) ≡ good
+    go : (short : Bool) → ltb (length input) planSize ≡ short → (good : Bool) → isPlan (planOf input) ≡ good
         → planIn input ≡ accepted p → isPlan p ≡ true
     go true s good g e = let z : _≡_ {A = ℕ} 0 1 = cc (rw s at e) in absurd (omega arith)
     go false s false g e = let z : _≡_ {A = ℕ} 0 1 = cc (rw (s, g) at e) in absurd (omega arith)
     go false s true g e = let same : planOf input ≡ p = cc (rw (s, g) at e) in rw (← same) g
 
-pub planIn-more : (input more : List ℕ) → 3 ≤ length input → planIn (input ++ more) ≡ planIn input
+pub planIn-more : (input more : List ℕ) → planSize ≤ length input → planIn (input ++ more) ≡ planIn input
 unfolding planIn
 planIn-more input more h =
     let long = length-append input more in
     let n = List·getD-append input more 0 0 (omega arith) in
     let a = List·getD-append input more 0 1 (omega arith) in
     let l = List·getD-append input more 0 2 (omega arith) in
-    rw (le-ltb (length (input ++ more)) 3 (omega arith), le-ltb (length input) 3 h, n, a, l)
+    let high = List·getD-append input more 0 3 (omega arith) in
+    let low = List·getD-append input more 0 4 (omega arith) in
+    rw (le-ltb (length (input ++ more)) planSize (omega arith), le-ltb (length input) planSize h, n, a, l, high, low)
 
 module _ (n : ℕ) (l : List ℕ) where
   pub take-least : take (min n (length l)) l ≡ take n l

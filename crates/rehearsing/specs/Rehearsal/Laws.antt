@@ -22,7 +22,7 @@ use Rattle.message.specs.Outcome.Laws.{both}
 use Rattle.message.specs.Plan.{isPlan}
 use Rattle.message.specs.Plan.Laws.{plan-bounds}
 use Rattle.message.specs.Rows.{Rows, end, guard, here, below, Applies, Lowest}
-use Rattle.slots.specs.Table.{isTableLength}
+use Rattle.slots.specs.Table.{slotSize, isTableLength}
 use Rattle.ending.specs.Ending.{endingOf}
 use Rattle.record.specs.Record.{Tables, inboxSize, areLengths, openJudged, zeroed, recordOpen, recordStep}
 use Rattle.conformance.specs.Record.{recordRows}
@@ -68,15 +68,15 @@ calls-length (suc k) [] = omega arith
 calls-length (suc k) (x ∷ xs) = let h = calls-length k (drop 3 xs) in omega arith
 
 -- tables of the right lengths are opened as the fresh ones
-module _ (p : Plan) (slots : ℕ) (plan : isPlan p ≡ true) (whole : isTableLength (6 * slots) ≡ true) (t : Tables)
+module _ (p : Plan) (slots : ℕ) (plan : isPlan p ≡ true) (whole : isTableLength (slotSize * slots) ≡ true) (t : Tables)
     (w : length (t .states) ≡ p .rms) (q : length (t .votes) ≡ 3 * (p .rms * p .acceptors))
-    (n : length (t .network) ≡ 6 * slots) (i : length (t .inboxes) ≡ p .leaders * (6 * slots)) where
+    (n : length (t .network) ≡ slotSize * slots) (i : length (t .inboxes) ≡ p .leaders * (slotSize * slots)) where
   lengths-right : areLengths p t ≡ true
   unfolding areLengths inboxSize
   lengths-right =
       let some = plan-bounds p plan .leaders-least in
-      let size = mul-div-right (6 * slots) {m = p .leaders} some in
-      let parts = mul-mod-right (p .leaders) (6 * slots) in
+      let size = mul-div-right (slotSize * slots) {m = p .leaders} some in
+      let parts = mul-mod-right (p .leaders) (slotSize * slots) in
       rw (eq-eqb _ _ w, eq-eqb _ _ q, n, whole, i, parts, size, whole)
 
   pub opens : recordOpen p t ≡ record { answer = accepted tt; tables = freshTables slots p }

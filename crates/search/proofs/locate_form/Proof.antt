@@ -1,44 +1,116 @@
--- `search::locate_form` meets its contract: looking from the window's place on gives what looking from the start gives. Assumes nothing.
+-- `search::locate_form` meets its contract: looking from `place` on finds what looking from the start finds. Assumes nothing.
 use Prim.Native.Nat.{_≤_, _-_}
-use mathlib.Core.Path.{_≡_, refl, sym, _∙_}
+use mathlib.Core.Path.{_≡_, _∙_}
 use native.Mathlib.Omega.{arith}
-use lib.ListN.{drop}
 use borrow.Author.Needs.{needs}
-use Rattle.slots.specs.Table.{slots}
-use Rattle.slots.specs.Table.Scan.{locate, locateFrom}
-use Rattle.search.proofs.Look.{locate-free, locate-at, locate-next, locate-end}
+use denote.Ref.{now}
+use Rattle.slots.specs.Table.Scan.{locate}
+use Rattle.search.proofs.Look.{lookFrom, look-start, look-end, Compared, look-free, look-at, look-next, look-block}
 use Rattle.search.proofs.locate_form.Statement.{statement}
 use Rattle.search.proofs.locate_form.Tie as tie
 
 abbrev Inv-loop : tie.InvT-loop
-Inv-loop table form count left₀ left = (left .place ≤ count) ×
-    (locateFrom (left .place) (drop (left .place) (slots table)) form ≡ locateFrom 0 (slots table) form)
+Inv-loop table form head whole count place₀ place = (place ≤ count) × (lookFrom table form place ≡ locate table form)
 
 abbrev μ-loop : tie.MeasureT-loop
-μ-loop table form count left₀ left = count - left .place
+μ-loop table form head whole count place₀ place = count - place
+
+-- where the function began, from the loop's head
+abbrev start : tie.At-loop Inv-loop μ-loop → tie.Start Inv-loop μ-loop
+start c = c .before .before .before .before .before
+
+-- the loop's test and its head, from where the slot was read
+abbrev tested : tie.After-eight-from2 Inv-loop μ-loop → tie.In-loop Inv-loop μ-loop
+tested c = c .before .before .before
+
+abbrev looped : tie.After-eight-from2 Inv-loop μ-loop → tie.At-loop Inv-loop μ-loop
+looped c = tested c .before
+
+-- the slot and the form as numbers
+compared : (c : tie.After-eight-from2 Inv-loop μ-loop)
+    → Compared (now (start (looped c) .args .table)) (now (start (looped c) .args .form)) (looped c .loop .place)
+    (c .eight-from2 .result) (looped c .before .eight-from .result)
+compared c =
+    record {
+      size = start (looped c) .pre;
+      inside = tested c .loop-test .taken;
+      of-slot = c .eight-from2 .ensures;
+      of-form = looped c .before .eight-from .ensures;
+    }
+
+word-from-requires : tie.Need-word-from-requires Inv-loop μ-loop
+word-from-requires c κs = search needs
+
+eight-from-requires : tie.Need-eight-from-requires Inv-loop μ-loop
+eight-from-requires c κs = search needs
+
+loop-holds : tie.Need-loop-holds Inv-loop μ-loop
+loop-holds c = (search needs, look-start _ _)
+
+is-passed-requires : tie.Need-is-passed-requires Inv-loop μ-loop
+is-passed-requires c κs = search needs
+
+add-place : tie.Need-add-place Inv-loop μ-loop
+add-place c = search needs
+
+loop-less : tie.Need-loop-less Inv-loop μ-loop
+loop-less c = let block = c .before .is-passed .ensures (c .if1 .taken) in omega (arith, block .room)
+
+loop-again : tie.Need-loop-again Inv-loop μ-loop
+loop-again c =
+    let at-loop = c .before .before .before in
+    let at-head = at-loop .before .before in
+    let block = c .before .is-passed .ensures (c .if1 .taken) in
+    (omega (arith, block .room), look-block _ _ _ _ (at-head .word-from .ensures) block ∙ at-loop .loop .inv .1)
+
+mul-eight-from : tie.Need-mul-eight-from Inv-loop μ-loop
+mul-eight-from c = search needs
+
+eight-from-requires-2 : tie.Need-eight-from-requires-2 Inv-loop μ-loop
+eight-from-requires-2 c κs = search needs
+
+returns : tie.Need-returns Inv-loop μ-loop
+returns c = let at-slot = c .before in look-free (compared at-slot) (c .if2 .taken) ∙ looped at-slot .loop .inv .1
+
+returns-2 : tie.Need-returns-2 Inv-loop μ-loop
+returns-2 c =
+    let at-used = c .before in
+    let at-slot = at-used .before in
+    look-at (compared at-slot) (at-used .if2 .left) (c .if3 .taken) ∙ looped at-slot .loop .inv .1
+
+add-place-2 : tie.Need-add-place-2 Inv-loop μ-loop
+add-place-2 c = search needs
+
+loop-less-2 : tie.Need-loop-less-2 Inv-loop μ-loop
+loop-less-2 c = search needs
+
+loop-again-2 : tie.Need-loop-again-2 Inv-loop μ-loop
+loop-again-2 c =
+    let at-used = c .before in
+    let at-slot = at-used .before in
+    (omega (arith, compared at-slot .inside), look-next (compared at-slot) (at-used .if2 .left) (c .if3 .left) ∙ looped at-slot .loop .inv .1)
+
+returns-3 : tie.Need-returns-3 Inv-loop μ-loop
+returns-3 c = look-end _ _ _ (c .loop-test .left) ∙ c .before .loop .inv .1
 
 pub locate-form-spec : {M : Type 1} → statement M
-unfolding locate
 locate-form-spec =
     tie.close
     (tie.spec
     Inv-loop
     μ-loop
-    (λ c. (search needs, refl))
-    (λ c κs. (c .before .before .before .before .pre, c .before .before .loop .inv .0))
-    (λ c. sym (locate-end _ _ _ (c .if2 .taken)) ∙ c .before .next-window .ensures .2 ∙ c .before .before .before .before .loop .inv .1)
-    (λ c. search needs)
-    (λ c. search needs)
-    (λ c. sym (locate-free _ _ _ (c .before .before .if2 .left) (c .if3 .taken))
-    ∙ c .before .before .before .next-window .ensures .2 ∙ c .before .before .before .before .before .before .loop .inv .1)
-    (λ c κs. (c .before .before .before .before .before .before .before .before .pre, c .before .before .if2 .left, refl))
-    (λ c. sym (locate-at _ _ _ (c .before .before .before .before .if2 .left) (c .before .before .if3 .left) (sym (c .before .is-form .ensures) ∙ c .if4 .taken))
-    ∙ c .before .before .before .before .before .next-window .ensures .2 ∙ c .before .before .before .before .before .before .before .before .loop .inv .1)
-    (λ c. search needs)
-    (λ c. omega (arith, c .before .before .before .before .before .next-window .ensures .0, c .before .before .before .before .if2 .left))
-    (λ c. (
-      omega (arith, c .before .before .before .before .if2 .left),
-      locate-next _ _ _ (c .before .before .before .before .if2 .left) (c .before .before .if3 .left) (sym (c .before .is-form .ensures) ∙ c .if4 .left)
-          ∙ c .before .before .before .before .before .next-window .ensures .2 ∙ c .before .before .before .before .before .before .before .before .loop .inv .1,
-    ))
-    (λ c. sym (locate-end _ _ _ (c .if1 .left)) ∙ c .before .before .loop .inv .1))
+    word-from-requires
+    eight-from-requires
+    loop-holds
+    is-passed-requires
+    add-place
+    loop-less
+    loop-again
+    mul-eight-from
+    eight-from-requires-2
+    returns
+    returns-2
+    add-place-2
+    loop-less-2
+    loop-again-2
+    returns-3)

@@ -14,30 +14,29 @@ use lib.Seq.{take-at, drop-at, drop-drop}
 use borrow.Author.Tests.{ne-eqb, lt-ltb, le-ltb}
 use Rattle.message.specs.declared.Plan.{Plan}
 use Rattle.message.specs.declared.Message.{Message}
-use Rattle.message.specs.Outcome.{Outcome, accepted, refused, refuseIf}
+use Rattle.message.specs.Outcome.{Outcome, accepted, refused}
 use Rattle.message.specs.Plan.{isPlan}
-use Rattle.message.specs.Form.{messageLength, slotOf, mapLength, isInRange}
-use Rattle.message.specs.Form.Laws.{mapLength-bytesOf, first-bytesOf, length-slotOf, first-slotOf, take-slotOf, decode-slotOf}
+use Rattle.message.specs.Form.{slotOf, isInRange}
+use Rattle.message.specs.Form.Laws.{length-slotOf, take-slotOf, decode-slotOf}
 use Rattle.message.specs.Codec.Laws.{readMessage-bytesOf}
 use Rattle.slots.specs.Table.{Unused, Used, slotSize, slots, joinSlots, tableOf, sameBytes, storeAt}
 use Rattle.message.specs.Outcome.Laws.{both}
 use Rattle.slots.specs.declared.Place.the-variants.{At}
 use Rattle.slots.specs.Table.Scan.{peekSlot, peekTable, readUsed, readAt, locateFrom, locate}
-use Rattle.slots.specs.Table.Scan.Laws.{storeAt-in}
+use Rattle.slots.specs.Table.Scan.Laws.{readUsed-unused, readUsed-used, storeAt-in}
+use Rattle.message.specs.Form.Laws.{slotOf-used, mapLength-slotOf}
 use Rattle.slots.specs.Send.{sameMessage, placeFrom, placeIn, messageAt}
 use Rattle.slots.specs.Table.Holds.{Holds, zeroSlot, AllSized, length-joinSlots, slots-tableOf, read-holding, length-holds, allInRange}
 
 peek-slotOf : (p : Plan) (m : Message) → peekSlot (slotOf p m) ≡ Used m
 unfolding peekSlot
-peek-slotOf p m = rw (ne-eqb _ _ (λ e. first-bytesOf p m (sym (first-slotOf p m) ∙ e)), decode-slotOf p m)
+peek-slotOf p m = rw (ne-eqb _ _ (slotOf-used p m), decode-slotOf p m)
 
 -- the reader gives the message of its slot back
 read-used : (p : Plan) → isPlan p ≡ true → (m : Message) → isInRange p m ≡ true → readUsed p (slotOf p m) ≡ accepted m
-unfolding readUsed refuseIf
 read-used p plan m i =
-    let len : mapLength (getD (slotOf p m) 0 0) ≡ messageLength p m = ap mapLength (first-slotOf p m) ∙ mapLength-bytesOf p m in
-    rw (ne-eqb (getD (slotOf p m) 0 0) 0 (λ e. first-bytesOf p m (sym (first-slotOf p m) ∙ e)), len, take-slotOf p m)
-    (readMessage-bytesOf p m plan i)
+    readUsed-used p (slotOf p m) (slotOf-used p m)
+    ∙ (rw (mapLength-slotOf p m, take-slotOf p m) (readMessage-bytesOf p m plan i))
 
 holding-at : (ms : List Message) (j k : ℕ) → getD (map accepted ms ++ replicate k (refused 8)) j (refused 8) ≡ messageAt ms j
 unfolding messageAt
@@ -56,12 +55,12 @@ module _ (p : Plan) (room : ℕ) (ms : List Message) (t : List ℕ) (h : Holds p
       ∙ read-holding peekSlot Used Unused refl p ms (λ m i. peek-slotOf p m) (h .inRange) (room - length ms)
 
   pub read-holds : isPlan p ≡ true → (k : ℕ) → readAt p t k ≡ messageAt ms k
-  unfolding readAt readUsed refuseIf
+  unfolding readAt
   read-holds plan k =
       ap (λ (u : List ℕ). getD (map (readUsed p) (slots u)) k (refused 8)) (h .form)
       ∙ ap (λ (l : List (List ℕ)). getD (map (readUsed p) l) k (refused 8)) (slots-tableOf p room ms)
       ∙ ap (λ (l : List (Outcome Message)). getD l k (refused 8))
-      (read-holding (readUsed p) accepted (refused 8) refl p ms (read-used p plan) (h .inRange) (room - length ms))
+      (read-holding (readUsed p) accepted (refused 8) (readUsed-unused p zeroSlot refl) p ms (read-used p plan) (h .inRange) (room - length ms))
       ∙ holding-at ms k (room - length ms)
 
 -- looking for a message among the slots that hold messages
@@ -70,7 +69,7 @@ unfolding locateFrom placeFrom sameMessage
 locate-holding p [] j zero m = sym (rw (le-ltb j (j + 0 + 0) (omega arith)))
 locate-holding p [] j (suc k) m = sym (rw (lt-ltb j (j + 0 + suc k) (omega arith)))
 locate-holding p (x ∷ ms) j k m =
-    rw (ne-eqb (getD (slotOf p x) 0 0) 0 (λ e. first-bytesOf p x (sym (first-slotOf p x) ∙ e)))
+    rw (ne-eqb (getD (slotOf p x) 0 0) 0 (slotOf-used p x))
     (ap (cond (sameBytes (slotOf p x) (slotOf p m)) (At j))
     (locate-holding p ms (suc j) k m ∙ ap (λ (room : ℕ). placeFrom p (suc j) room ms m) (shift j (length ms) k)))
   where

@@ -12,7 +12,7 @@ use mathlib.Core.List.{List, [], _∷_, _++_, map}
 use mathlib.Core.Path.{_≡_, refl, sym, _∙_, ap, ap₂}
 use native.Mathlib.Nat.{le-of-eq, sub-zero, suc-sub-suc}
 use native.Mathlib.Omega.{arith}
-use lib.ListN.{length, getD, take, drop, replicate, length-append, length-replicate, length-map, length-drop, take-append-drop}
+use lib.ListN.{length, getD, take, drop, replicate, length-append, length-replicate, length-map, length-drop}
 use lib.Seq.{take-all, take-at, drop-at, length-take-le}
 use lib.Dec.{eqb, lit≤}
 use borrow.Author.Tests.{ne-eqb, eqb-true}
@@ -21,7 +21,7 @@ use Rattle.message.specs.declared.Message.{Message}
 use Rattle.message.specs.Outcome.{Outcome, accepted, refused}
 use Rattle.message.specs.Plan.{isPlan}
 use Rattle.message.specs.Form.{messageLength, slotOf, mapLength, isInRange}
-use Rattle.message.specs.Form.Laws.{messageLength-length, mapLength-bound, mapLength-bytesOf, first-bytesOf, length-slotOf, first-slotOf, take-slotOf, drop-slotOf}
+use Rattle.message.specs.Form.Laws.{messageLength-length, mapLength-bound, length-slotOf, take-slotOf, drop-slotOf}
 use Rattle.message.specs.Codec.{readMessage}
 use Rattle.message.specs.Codec.Laws.{readMessage-form, readMessage-bytesOf}
 use Rattle.slots.specs.Table.{Slot, Unused, Used, Bad, slotSize, isTableLength, slotsUpTo, slots, isZero}
@@ -29,6 +29,7 @@ use Rattle.slots.specs.Table.{usedSlot, readSlot, readTable, isTable, is
 use Rattle.slots.specs.All.{all}
 use Rattle.message.specs.Outcome.Laws.{both}
 use Rattle.slots.specs.All.Laws.{all-stop}
+use Rattle.message.specs.Form.Laws.{slotOf-used, mapLength-slotOf, slotOf-parts}
 use Rattle.slots.specs.Table.Laws.{isZero-replicate, isZero-form, length-slotsUpTo, joinSlots-slotsUpTo, readSlot-unused, readSlot-used}
 
 -- all of these messages are in range
@@ -36,21 +37,21 @@ unfoldable pub allInRange : Plan → List Message → Bool
 allInRange p [] = true
 allInRange p (m ∷ ms) = isInRange p m && allInRange p ms
 
+-- an unused slot
 abbrev pub zeroSlot : List ℕ
 zeroSlot = replicate slotSize 0
 
 -- a used slot is its message's slot
 used-form : (p : Plan) (s : List ℕ) (m : Message) → length s ≡ slotSize → readMessage p (take (mapLength (getD s 0 0)) s) ≡ accepted m → isZero (drop (mapLength (getD s 0 0)) s) ≡ true
     → (isInRange p m ≡ true) × (s ≡ slotOf p m)
-unfolding slotOf
 used-form p s m n e z =
     let len : ℕ = mapLength (getD s 0 0) in
     let f = readMessage-form p (take len s) m e in
     let short : len ≤ length s = rw n (mapLength-bound _) in
-    let len-is : messageLength p m ≡ len = sym (messageLength-length p m) ∙ ap length (sym (f .bytes-form)) ∙ length-take-le len s short in
-    let left : length (drop len s) ≡ slotSize - messageLength p m = length-drop len s ∙ ap₂ _-_ n (sym len-is) in
+    let len-is : len ≡ messageLength p m = sym (length-take-le len s short) ∙ ap length (f .bytes-form) ∙ messageLength-length p m in
+    let left : length (drop len s) ≡ slotSize - messageLength p m = length-drop len s ∙ ap₂ _-_ n len-is in
     let rest : drop len s ≡ replicate (slotSize - messageLength p m) 0 = isZero-form (drop len s) z ∙ ap (λ (k : ℕ). replicate k 0) left in
-    (f .inRange, sym (take-append-drop len s) ∙ ap₂ (λ (a b : List ℕ). a ++ b) (f .bytes-form) rest)
+    (f .inRange, slotOf-parts p m s (rw len-is at (f .bytes-form)) (rw len-is at rest))
 
 -- a slot is unused and zeros, or used and the slot of a message in range, or bad
 data SlotCase (p : Plan) (s : List ℕ) : Slot → Type 0 where
@@ -85,7 +86,7 @@ record SlotsHold (p : Plan) (ss : List (List ℕ)) (ms : List Message) : Type 0 
   pub room : length ms ≤ length ss
   pub inRange : allInRange p ms ≡ true
 
-unused-none : (l : List Slot) → allUnused l ≡ true → (isOrdered l ≡ true) × (usedMessages l ≡ [])
+pub unused-none : (l : List Slot) → allUnused l ≡ true → (isOrdered l ≡ true) × (usedMessages l ≡ [])
 unfolding allUnused isOrdered usedMessages
 unused-none [] e = (refl, refl)
 unused-none (Unused ∷ l) e = (e, unused-none l e .1)
@@ -194,16 +195,15 @@ module _ {A : Type 0} (read : List ℕ → A) (made : Message → A) (none : A) 
       let b = both (isInRange p m) (allInRange p ms) i in
       ap₂ (λ (a : A) (b : List A). a ∷ b) (one m (b .0)) (read-holding p ms one (b .1) k)
 
-isZero-slotOf : (p : Plan) (m : Message) → isZero (slotOf p m) ≡ false
+pub isZero-slotOf : (p : Plan) (m : Message) → isZero (slotOf p m) ≡ false
 unfolding isZero
-isZero-slotOf p m = all-stop (λ x. eqb x 0) (slotOf p m) 0 (rw (length-slotOf p m) (lit≤ tt)) (ne-eqb _ _ (λ e. first-bytesOf p m (sym (first-slotOf p m) ∙ e)))
+isZero-slotOf p m = all-stop (λ x. eqb x 0) (slotOf p m) 0 (rw (length-slotOf p m) (lit≤ tt)) (ne-eqb _ _ (slotOf-used p m))
 
 read-slotOf : (p : Plan) → isPlan p ≡ true → (m : Message) → isInRange p m ≡ true → readSlot p (slotOf p m) ≡ Used m
 read-slotOf p h m i =
-    let len : mapLength (getD (slotOf p m) 0 0) ≡ messageLength p m = ap mapLength (first-slotOf p m) ∙ mapLength-bytesOf p m in
     readSlot-used p (slotOf p m) (isZero-slotOf p m) m
-    (rw (len, take-slotOf p m) (readMessage-bytesOf p m h i))
-    (rw (len, drop-slotOf p m) (isZero-replicate (slotSize - messageLength p m)))
+    (rw (mapLength-slotOf p m, take-slotOf p m) (readMessage-bytesOf p m h i))
+    (rw (mapLength-slotOf p m, drop-slotOf p m) (isZero-replicate (slotSize - messageLength p m)))
 
 -- the slots of a table that holds messages, as they are read
 holding-ordered : (ms : List Message) (k : ℕ) → isOrdered (map Used ms ++ replicate k Unused) ≡ true

@@ -1,12 +1,15 @@
 -- The laws of slot tables.
 --     isZero-replicate, isZero-form                   zeros
 --     length-slotsUpTo, getD-slotsUpTo, drop-slotsUpTo, joinSlots-slotsUpTo      slots by place
+--     length-slots, getD-slots                        the slots of a table
 --     readSlot-unused, -used                          a slot of zeros, and one with a message
---     slotAt, slotAt-end, length-readTable            the slot at a place
---     leadingUsed-bound, -first                       counting the used slots at the start
+--     slotAt, slotAt-end, length-readTable            the slot at a place, by any rule
+--     readAt-in, readAt-out                           the same by the reader
+--     leadingUsed-bound, -readTable                   counting the used slots at the start
+--     isTable-zero, -none, -first                     a table is well formed where all bytes after them are zeros
 -- Assumes nothing.
 use Prim.Native.Nat.{ℕ, zero, suc, _+_, _-_, _*_, _/_, _≤_, _<_, zero-le, suc-le-suc}
-use mathlib.Core.Bool.{Bool, true, false, _&&_, cond, not}
+use mathlib.Core.Bool.{Bool, true, false, _&&_, cond}
 use mathlib.Core.List.{List, [], _∷_, _++_, map}
 use mathlib.Core.Path.{_≡_, refl, sym, _∙_, ap, ap₂}
 use native.Mathlib.Nat.{add-sub-cancel-left, not-suc-le-zero, sub-zero, suc-sub-suc}
@@ -17,15 +20,16 @@ use lib.Seq.{drop-drop, take-add, getD-take}
 use borrow.Author.Tests.{eqb-true}
 use Rattle.message.specs.declared.Plan.{Plan}
 use Rattle.message.specs.declared.Message.{Message}
-use Rattle.message.specs.Outcome.{Outcome, accepted, refused, refuseIf}
-use Rattle.message.specs.Plan.{isPlan}
+use Rattle.message.specs.Outcome.{Outcome, accepted, refused}
 use Rattle.message.specs.Form.{mapLength}
 use Rattle.message.specs.Codec.{readMessage}
 use Rattle.slots.specs.Table.{Slot, Unused, Used, Bad, slotSize, slotsUpTo, slots, isZero, usedSlot, readSlot, readTable, allUnused, isOrdered, isTable, joinSlots}
 use Rattle.slots.specs.All.{all}
 use Rattle.message.specs.Outcome.Laws.{both}
 use Rattle.slots.specs.All.Laws.{all-append}
-use Rattle.slots.specs.Table.Scan.{leadingUsed}
+use Rattle.slots.specs.Table.Scan.{readUsed, readAt, leadingUsed}
+use Rattle.slots.specs.Table.Scan.Laws.{readUsed-unused}
+use Rattle.message.specs.Codec.Laws.{readMessage-none}
 
 pub isZero-replicate : (n : ℕ) → isZero (replicate n 0) ≡ true
 unfolding isZero all
@@ -67,6 +71,14 @@ unfolding slotsUpTo joinSlots
 joinSlots-slotsUpTo zero t = refl
 joinSlots-slotsUpTo (suc n) t = ap (λ (r : List ℕ). take slotSize t ++ r) (joinSlots-slotsUpTo n (drop slotSize t)) ∙ rw (times-suc n, take-add)
 
+pub length-slots : (t : List ℕ) → length (slots t) ≡ length t / slotSize
+unfolding slots
+length-slots t = length-slotsUpTo (length t / slotSize) t
+
+pub getD-slots : (t : List ℕ) (k : ℕ) → k < length t / slotSize → getD (slots t) k [] ≡ take slotSize (drop (k * slotSize) t)
+unfolding slots
+getD-slots t k h = getD-slotsUpTo (length t / slotSize) k t h
+
 -- a slot case by case
 module _ (p : Plan) (s : List ℕ) where
   pub readSlot-unused : isZero s ≡ true → readSlot p s ≡ Unused
@@ -79,24 +91,28 @@ module _ (p : Plan) (s : List ℕ) where
   readSlot-used z m e r = rw (z, e, r)
 
 pub length-readTable : (p : Plan) (t : List ℕ) → length (readTable p t) ≡ length t / slotSize
-unfolding readTable slots
-length-readTable p t = length-map (slotsUpTo (length t / slotSize) t) (readSlot p) ∙ length-slotsUpTo _ t
+unfolding readTable
+length-readTable p t = length-map (slots t) (readSlot p) ∙ length-slots t
 
 -- the slot at a place, read by any rule, and past the end
 module _ {A : Type 0} (read : List ℕ → A) (none : A) (of-none : read [] ≡ none) (t : List ℕ) (k : ℕ) where
   pub slotAt : k < length t / slotSize → read (take (k * slotSize + slotSize - k * slotSize) (drop (k * slotSize) t)) ≡ getD (map read (slots t)) k none
-  unfolding slots
   slotAt h =
       rw (add-sub-cancel-left (k * slotSize) slotSize)
-      (ap read (sym (getD-slotsUpTo _ k t h)) ∙ sym (rw of-none at (List·getD-map read (slotsUpTo (length t / slotSize) t) k [])))
+      (ap read (sym (getD-slots t k h)) ∙ sym (rw of-none at (List·getD-map read (slots t) k [])))
 
   pub slotAt-end : length t / slotSize ≤ k → none ≡ getD (map read (slots t)) k none
-  unfolding slots
-  slotAt-end h = sym (List·getD-eq-default (map read (slotsUpTo (length t / slotSize) t)) none (rw (
-    length-map (slotsUpTo
-        (length t / slotSize) t) read,
-    length-slotsUpTo (length t / slotSize) t,
-  ) h))
+  slotAt-end h = sym (List·getD-eq-default (map read (slots t)) none (rw (length-map (slots t) read, length-slots t) h))
+
+-- the slot at a place by the reader, and past the end
+module _ (p : Plan) (t : List ℕ) (k : ℕ) where
+  pub readAt-in : k < length t / slotSize → readUsed p (take (k * slotSize + slotSize - k * slotSize) (drop (k * slotSize) t)) ≡ readAt p t k
+  unfolding readAt
+  readAt-in h = slotAt (readUsed p) (refused 8) (readUsed-unused p [] refl) t k h
+
+  pub readAt-out : length t / slotSize ≤ k → refused 8 ≡ readAt p t k
+  unfolding readAt
+  readAt-out h = slotAt-end (readUsed p) (refused 8) (readUsed-unused p [] refl) t k h
 
 -- counting the used slots at the start
 pub leadingUsed-bound : (l : List Slot) → leadingUsed l ≤ length l
@@ -155,13 +171,13 @@ isTable-zero p t u e =
 
 -- a slot whose first byte is no map is not used
 unused-first : (p : Plan) (s : List ℕ) (rest : List Slot) → mapLength (getD s 0 0) ≡ 0 → 0 ≡ leadingUsed (readSlot p s ∷ rest)
-unfolding readSlot leadingUsed readMessage refuseIf
-unused-first p s rest e = rw e (go (isZero s) (isPlan p) (isZero s))
+unfolding readSlot leadingUsed
+unused-first p s rest e = rw e (go (isZero s) (readMessage p []) (isZero s) (readMessage-none p))
   where
-    go : (z plan r : Bool) → 0 ≡ leadingUsed (cond z Unused (usedSlot (refuseIf (not plan) 1 (refused 15)) r) ∷ rest)
-    go true plan r = refl
-    go false true r = refl
-    go false false r = refl
+    go : (z : Bool) (o : Outcome Message) (r : Bool) → ((m : Message) → o ≡ accepted m → ⊥) → 0 ≡ leadingUsed (cond z Unused (usedSlot o r) ∷ rest)
+    go true o r none = refl
+    go false (refused k) r none = refl
+    go false (accepted m) r none = absurd (none m refl)
 
 -- so a table that begins with such a byte has no leading used slots
 leadingUsed-first : (p : Plan) (t : List ℕ) → mapLength (getD t 0 0) ≡ 0 → 0 ≡ leadingUsed (readTable p t)

@@ -20,10 +20,11 @@ use Rattle.slots.specs.Table.{Slot, Unused, Used, Bad, slots, sameBytes}
 use Rattle.slots.specs.declared.Place.{Place}
 use Rattle.slots.specs.declared.Place.the-variants.{At, Free, Full}
 
--- the map byte 0 is no message's
+-- a slot by its first byte: 0 is no map
 unfoldable pub peekSlot : List ℕ → Slot
 peekSlot s = cond (eqb (getD s 0 0) 0) Unused (Used (decode s))
 
+-- all slots of a table so
 unfoldable pub peekTable : List ℕ → List Slot
 peekTable t = map peekSlot (slots t)
 
@@ -31,6 +32,7 @@ peekTable t = map peekSlot (slots t)
 unfoldable pub readUsed : Plan → List ℕ → Outcome Message
 readUsed p s = refuseIf (eqb (getD s 0 0) 0) 8 (readMessage p (take (mapLength (getD s 0 0)) s))
 
+-- the slot at a place; beyond the table it is refused as an unused one
 unfoldable pub readAt : Plan → List ℕ → ℕ → Outcome Message
 readAt p t k = getD (map (readUsed p) (slots t)) k (refused 8)
 
@@ -42,6 +44,7 @@ locateFrom place (s ∷ ss) form =
     (cond (sameBytes s form) (At place)
     (locateFrom (suc place) ss form))
 
+-- the same of a table
 unfoldable pub locate : List ℕ → List ℕ → Place
 locate t form = locateFrom 0 (slots t) form
 

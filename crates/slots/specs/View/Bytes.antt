@@ -18,5 +18,6 @@ leadingMessages (Unused ∷ rest) = []
 leadingMessages (Used m ∷ rest) = m ∷ leadingMessages rest
 leadingMessages (Bad ∷ rest) = []
 
+-- the view of a table's bytes
 abbrev pub viewBytes : Plan → List ℕ → View
 viewBytes p t = record { slot = readAt p t; messages = leadingMessages (peekTable t); send = λ m. sendOf (locate t (slotOf p m)) m }

@@ -24,11 +24,11 @@ use Rattle.message.specs.Outcome.{accepted}
 use Rattle.message.specs.Plan.{isPlan}
 use Rattle.message.specs.Form.{slotOf, decode, isInRange}
 use Rattle.message.specs.Form.Laws.{decode-slotOf}
-use Rattle.slots.specs.Table.{Unused, Used, slotSize, isTableLength, slots, slotsUpTo, isTable, sameBytes}
+use Rattle.slots.specs.Table.{Unused, Used, slotSize, isTableLength, slots, isTable, sameBytes}
 use Rattle.slots.specs.declared.Place.{Place}
 use Rattle.slots.specs.declared.Place.the-variants.{At, Free, Full}
 use Rattle.slots.specs.Table.Holds.{Holds, holds-judged}
-use Rattle.slots.specs.Table.Laws.{length-slotsUpTo}
+use Rattle.slots.specs.Table.Laws.{length-slots}
 use Rattle.slots.specs.Table.Scan.{peekSlot, peekTable, locateFrom, locate}
 use Rattle.slots.specs.Table.Scan.Laws.{sameBytes-true, sameBytes-refl}
 use Rattle.slots.specs.Send.{sameMessage, placeFrom, placeIn, messageAt}
@@ -98,8 +98,8 @@ placeCase p j room (x ∷ ms) m = go (sameMessage p x m) refl (placeCase p (suc 
 -- the messages from a place on, as a loop meets them
 module _ (t : List ℕ) (k : ℕ) where
   length-peekTable : length (peekTable t) ≡ length t / slotSize
-  unfolding peekTable slots
-  length-peekTable = length-map (slotsUpTo (length t / slotSize) t) peekSlot ∙ length-slotsUpTo _ t
+  unfolding peekTable
+  length-peekTable = length-map (slots t) peekSlot ∙ length-slots t
 
   module _ (h : k < length t / slotSize) where
     peek-cons : drop k (peekTable t) ≡ getD (peekTable t) k Unused ∷ drop (suc k) (peekTable t)
@@ -213,9 +213,9 @@ locate-absent p m (s ∷ ss) j a = go (eqb (getD s 0 0) 0) (sameBytes s (slotOf 
 -- on any bytes: a message that is absent is appended to the messages there, where there is room
 module _ (p : Plan) (t : List ℕ) (m : Message) (a : Absent (viewBytes p t .messages) m) (used : ℕ) (count : used ≡ length (viewBytes p t .messages)) where
   after-leading : After 0 used (length t / slotSize) (locate t (slotOf p m))
-  unfolding locate peekTable slots
+  unfolding locate peekTable
   after-leading =
-      subst₂ (λ (n room : ℕ). After 0 n room (locate t (slotOf p m))) (sym count) (length-slotsUpTo (length t / slotSize) t)
+      subst₂ (λ (n room : ℕ). After 0 n room (locate t (slotOf p m))) (sym count) (length-slots t)
       (locate-absent p m (slots t) 0 a)
 
   pub send-absent : used < length t / slotSize → viewBytes p t .send m ≡ Slot used (Put used m)

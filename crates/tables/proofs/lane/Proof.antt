@@ -1,20 +1,46 @@
--- `tables::lane` meets its contract: a byte is at most 255. Assumes nothing.
-use native.Mathlib.Omega.{arith}
+-- `tables::lane` meets its contract: the distance is within the span. Assumes nothing.
 use borrow.Author.Needs.{needs}
-use Rattle.tables.proofs.Forms.{within-in}
+use Rattle.tables.specs.Tables.Bounds.{isWithinAt}
 use Rattle.tables.proofs.lane.Statement.{statement}
 use Rattle.tables.proofs.lane.Tie as tie
+
+element-copy-out-distance : tie.Need-element-copy-out-distance
+element-copy-out-distance c = search needs
+
+add-distance : tie.Need-add-distance
+add-distance c = search needs
+
+shared-slice-read-distance : tie.Need-shared-slice-read-distance
+shared-slice-read-distance c = search needs
+
+distance-requires : tie.Need-distance-requires
+distance-requires c κs = tt
+
+element-copy-out-over : tie.Need-element-copy-out-over
+element-copy-out-over c = search needs
+
+over-requires : tie.Need-over-requires
+over-requires c κs = tt
+
+either-requires : tie.Need-either-requires
+either-requires c κs = tt
+
+returns : tie.Need-returns
+unfolding isWithinAt
+returns c =
+    let at-over = c .before in
+    let at-distance = at-over .before .before in
+    rw (c .either .ensures, at-over .over .ensures, at-distance .distance .ensures)
 
 pub lane-spec : {M : Type 1} → statement M
 lane-spec =
     tie.close
     (tie.spec
-    (λ c κs. search needs)
-    (λ c κs. search needs)
-    (λ c κs. search needs)
-    (λ c. rw (
-      c .either .ensures,
-      c .before .over .ensures,
-      c .before .before .distance .ensures,
-      within-in (c .before .before .before .args .low) (c .before .before .before .args .byte) (c .before .before .before .args .span) (omega arith) (omega arith),
-    )))
+    element-copy-out-distance
+    add-distance
+    shared-slice-read-distance
+    distance-requires
+    element-copy-out-over
+    over-requires
+    either-requires
+    returns)

@@ -1,7 +1,8 @@
--- A test of numbers that follow each other, and of four such runs side by side.
---     each, each-at, each-all, each-suc, each-same, each-last     the test of n numbers from a on
---     fourEach, four-start, four-step, four-all     four runs of the same length, one number further in each, and at their ends
---     zero-all                              a list of zeros
+-- A test of numbers that follow each other.
+--     each, each-at, each-all, each-suc, each-end     the test of n numbers from a on: one more, no more than these
+--     halves-suc, halves-end     n numbers from 0 and from h on: one more of each, and all below 2 h
+--     zero-all         a list of zeros
+--     interchange      two conjunctions, side by side
 -- Assumes nothing.
 use Prim.Native.Nat.{ℕ, zero, suc, _+_, _*_, _≤_, _<_}
 use mathlib.Core.Bool.{Bool, true, false, _&&_, and-assoc, and-true}
@@ -20,9 +21,6 @@ use Rattle.slots.specs.Table.{isZero}
 unfoldable pub each : (ℕ → Bool) → ℕ → ℕ → Bool
 each f a zero = true
 each f a (suc n) = each f a n && f (a + n)
-
-unfoldable pub fourEach : (ℕ → Bool) → ℕ → ℕ → Bool
-fourEach f q n = each f 0 n && each f q n && each f (2 * q) n && each f (3 * q) n
 
 -- two conjunctions, side by side
 pub interchange : (x y a b : Bool) → ((x && a) && (y && b)) ≡ ((x && y) && (a && b))
@@ -56,53 +54,24 @@ module _ (f : ℕ → Bool) where
       (and-assoc (each f a m) (each f (a + m) n) (f (a + (m + n)))
       ∙ ap (λ (k : ℕ). each f a m && (each f (a + m) n && f k)) (omega arith)))
 
-  module _ (q n : ℕ) where
-    -- the next number of each run
-    pub four-step : (b b1 b2 b3 b4 : Bool) → b ≡ fourEach f q n → b1 ≡ (b && f n) → b2 ≡ (b1 && f (q + n)) → b3 ≡ (b2 && f (2 * q + n))
-        → b4 ≡ (b3 && f (3 * q + n)) → b4 ≡ fourEach f q (n + 1)
-    unfolding fourEach each
-    four-step b b1 b2 b3 b4 e e1 e2 e3 e4 =
-        rw (e4, e3, e2, e1, e, add-one n, zero-add n)
-        (shift (each f 0 n) (each f q n) (each f (2 * q) n) (each f (3 * q) n) (f n) (f (q + n)) (f (2 * q + n)) (f (3 * q + n)))
-      where
-        shift : (x y z w a b c d : Bool)
-            → ((((x && y && z && w) && a) && b) && c) && d ≡ ((x && a) && (y && b) && (z && c) && (w && d))
-        shift x y z w a b c d =
-            rw (and-assoc (x && y && z && w) a b, and-assoc (x && y && z && w) (a && b) c, and-assoc (x && y && z && w) (a && b && c) d)
-            (sym (rw (interchange x y a b, interchange (x && y) z (a && b) c, interchange (x && y && z) w (a && b && c) d) refl))
-
-  pub four-start : (q : ℕ) → fourEach f q 0 ≡ true
-  unfolding fourEach each
-  four-start q = refl
-
-  four-end : (q : ℕ) → fourEach f q q ≡ each f 0 (4 * q)
-  unfolding fourEach
-  four-end q = sym (ap (each f 0) (four q) ∙ each-add 0 (q + q + q) q ∙ rw (each-add 0 (q + q) q, each-add 0 q q) (rw (zero-add q, zero-add (q + q), zero-add (q + q + q), two q, three q) refl))
-    where
-      four : (q : ℕ) → 4 * q ≡ q + q + q + q
-      four q = omega arith
-
-      two : (q : ℕ) → q + q ≡ 2 * q
-      two q = omega arith
-
-      three : (q : ℕ) → 2 * q + q ≡ 3 * q
-      three q = omega arith
-
-  pub four-all : (q n : ℕ) (b : Bool) → b ≡ fourEach f q n → n ≤ q → q ≤ n → b ≡ each f 0 (4 * q)
-  four-all q n b e l m = e ∙ (let x : n ≡ q = omega arith in ap (fourEach f q) x) ∙ four-end q
-
   pub each-suc : (n : ℕ) (b r : Bool) → b ≡ each f 0 n → r ≡ (b && f n) → r ≡ each f 0 (n + 1)
   unfolding each
   each-suc n b r e x = rw (x, e, add-one n, zero-add n) refl
 
   -- no more than these
-  pub each-same : (n u : ℕ) → n ≡ u → each f 0 n ≡ each f 0 u
-  each-same n u e = ap (each f 0) e
+  pub each-end : (n u : ℕ) (b : Bool) → b ≡ each f 0 n → n ≤ u → u ≤ n → b ≡ each f 0 u
+  each-end n u b e l m = e ∙ (let x : n ≡ u = omega arith in ap (each f 0) x)
 
-  -- the last one
-  pub each-last : (n m u : ℕ) (b r : Bool) → b ≡ each f 0 n → n ≤ m → m ≤ n → r ≡ (b && f m) → u ≡ m + 1 → r ≡ each f 0 u
-  each-last n m u b r e l k x o =
-      let same : n ≡ m = omega arith in rw o (each-suc m b r (e ∙ ap (each f 0) same) x)
+  pub halves-suc : (h n : ℕ) (b r : Bool) → b ≡ (each f 0 n && each f h n) → r ≡ (b && (f n && f (h + n)))
+      → r ≡ (each f 0 (n + 1) && each f h (n + 1))
+  unfolding each
+  halves-suc h n b r e x = rw (x, e, add-one n, zero-add n) (sym (interchange (each f 0 n) (each f h n) (f n) (f (h + n))))
+
+  pub halves-end : (h n : ℕ) (b : Bool) → b ≡ (each f 0 n && each f h n) → n ≤ h → h ≤ n → b ≡ each f 0 (2 * h)
+  halves-end h n b e l m =
+      let x : n ≡ h = omega arith in
+      let y : h + h ≡ 2 * h = omega arith in
+      e ∙ rw x (sym (rw (zero-add h) at (each-add 0 h h))) ∙ ap (each f 0) y
 
 zero-from : (l : List ℕ) (a n : ℕ) (g : ℕ → Bool) → ((k : ℕ) → g (a + k) ≡ eqb (getD l k 0) 0) → n ≡ length l → each g a n ≡ isZero l
 unfolding isZero all each

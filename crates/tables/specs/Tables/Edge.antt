@@ -1,10 +1,11 @@
 -- Where the used slots of a table end, seen from the first bytes of its slots.
 --     isUsed, usedAt, areUsed      a slot that holds a message; the slot at a place; the first slots
 --     Reached, Edge                a place up to which slots may be used, and no used slot a step further
+--     unknown-unused               a slot that begins with no map is not used
 --     edge-bad, edge-good          at such a place a table is well formed exactly when slots before it are used and bytes from it on are zeros
 -- Assumes nothing.
 use Prim.Native.Nat.{ℕ, zero, suc, _+_, _-_, _*_, _/_, _≤_, _<_}
-use mathlib.Core.Bool.{Bool, true, false, _&&_, cond, not, false≢true}
+use mathlib.Core.Bool.{Bool, true, false, _&&_, cond, false≢true}
 use mathlib.Core.List.{List, [], _∷_}
 use mathlib.Core.Path.{_≡_, refl, sym, _∙_, ap}
 use native.Mathlib.Decide.{decLe}
@@ -15,10 +16,13 @@ use lib.ListN.{length, getD, take, drop}
 use lib.Seq.{getD-take, getD-drop}
 use borrow.Author.Tests.{eqb-true}
 use Rattle.message.specs.declared.Plan.{Plan}
-use Rattle.message.specs.Outcome.{refused, refuseIf}
+use Rattle.message.specs.declared.Message.{Message}
+use Rattle.message.specs.Outcome.{Outcome, refused}
 use Rattle.message.specs.Plan.{isPlan}
-use Rattle.message.specs.Form.{mapLength, mapLengths}
+use Rattle.message.specs.Form.{mapLength}
+use Rattle.message.specs.Form.Laws.{mapLength-zero}
 use Rattle.message.specs.Codec.{readMessage}
+use Rattle.message.specs.Codec.Laws.{readMessage-plan, readMessage-empty}
 use Rattle.message.specs.Outcome.Laws.{both}
 use Rattle.slots.specs.All.{all}
 use Rattle.slots.specs.Table.{Slot, Unused, Used, Bad, slotSize, isZero, usedSlot, readSlot, readTable, isTable}
@@ -46,15 +50,22 @@ pub record Reached (t : List ℕ) (place : ℕ) : Type 0 where
 abbrev pub Edge : List ℕ → ℕ → ℕ → Type 0
 Edge t place step = place + step ≤ length t / slotSize → getD t ((place + step - 1) * slotSize) 0 ≡ 0
 
--- a slot that begins with 0 is not used
-first-unused : (p : Plan) (s : List ℕ) → getD s 0 0 ≡ 0 → isUsed (readSlot p s) ≡ false
-unfolding readSlot readMessage refuseIf mapLength mapLengths
-first-unused p s e = rw e (go (isZero s) (isPlan p) (isZero s))
+-- a slot whose message is refused
+refused-unused : (o : Outcome Message) (k : ℕ) → o ≡ refused k → (zeros rest : Bool) → isUsed (cond zeros Unused (usedSlot o rest)) ≡ false
+refused-unused o k e zeros rest = rw e (go zeros)
   where
-    go : (z plan r : Bool) → isUsed (cond z Unused (usedSlot (refuseIf (not plan) 1 (refused 15)) r)) ≡ false
-    go true plan r = refl
-    go false true r = refl
-    go false false r = refl
+    go : (zeros : Bool) → isUsed (cond zeros Unused Bad) ≡ false
+    go true = refl
+    go false = refl
+
+-- a slot that begins with no map is not used
+pub unknown-unused : (p : Plan) (s : List ℕ) → mapLength (getD s 0 0) ≡ 0 → isUsed (readSlot p s) ≡ false
+unfolding readSlot
+unknown-unused p s u = rw u (go (isPlan p) refl)
+  where
+    go : (plan : Bool) → isPlan p ≡ plan → isUsed (cond (isZero s) Unused (usedSlot (readMessage p []) (isZero s))) ≡ false
+    go true e = refused-unused _ 15 (readMessage-empty p [] e refl) (isZero s) (isZero s)
+    go false e = refused-unused _ 1 (readMessage-plan p [] e) (isZero s) (isZero s)
 
 -- the leading slots are used, and the next is not
 leading-at : (l : List Slot) (k : ℕ) → k < leadingUsed l → isUsed (getD l k Unused) ≡ true
@@ -87,9 +98,10 @@ module _ (p : Plan) (t : List ℕ) (u : ℕ) (reached : Reached t u) (edge : Edg
   unfolding usedAt readTable isZero all
   next-unused h =
       ap isUsed (sym (slotAt (readSlot p) Unused (readSlot-unused p [] refl) t u h))
-      ∙ first-unused p _ (rw (add-sub-cancel-left (u * slotSize) slotSize)
+      ∙ unknown-unused p _ (ap mapLength (rw (add-sub-cancel-left (u * slotSize) slotSize)
       (getD-take slotSize (drop (u * slotSize) t) 0 0 (lit≤ tt) ∙ getD-drop (u * slotSize) t 0 0
       ∙ ap (λ (k : ℕ). getD t k 0) (omega arith) ∙ edge (omega arith)))
+      ∙ mapLength-zero)
 
   all-used : areUsed p t u ≡ true → u ≡ leadingUsed (readTable p t)
   unfolding areUsed usedAt

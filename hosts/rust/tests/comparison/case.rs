@@ -106,7 +106,10 @@ pub type Code = u64;
 /// The refusal that a code is, 0 for an acceptance.
 pub fn refusal(call: &Call, code: Code) -> u8 {
     match call {
-        Call::Read(_) | Call::Write(_) | Call::Open => code as u8,
+        Call::Read(_) | Call::Open => code as u8,
+        // The first byte is a map, or 0 and then the refusal.
+        Call::Write(_) if code as u8 == 0 => (code >> 8) as u8,
+        Call::Write(_) => 0,
         _ if code >= 65536 => (code - 65536) as u8,
         _ => 0,
     }
@@ -140,8 +143,11 @@ impl Engine for Linked {
             Call::Write([map, ins, acc, mbal, bal, val]) => {
                 let fields = Fields { map: *map, ins: *ins, acc: *acc, mbal: *mbal, bal: *bal, val: *val };
                 match fields.write(plan) {
-                    Ok(written) => written_code(written.slot(), written.len()),
-                    Err(refusal) => refusal.number().into(),
+                    Ok(written) => {
+                        assert_eq!(written.len(), usize::from(reference::LENGTHS[usize::from(written[0])]));
+                        Code::from_le_bytes(written.slot())
+                    }
+                    Err(refusal) => 256 * Code::from(refusal.number()),
                 }
             }
             Call::Open => match paxos_commit::open(plan, states, votes, network, inboxes) {
@@ -171,11 +177,6 @@ fn part(inboxes: &mut [u8], from: usize, to: usize) -> &mut [u8] {
     &mut inboxes[from.min(to)..to]
 }
 
-fn written_code(slot: [u8; 6], len: usize) -> Code {
-    let [a, b, c, d, e, f] = slot;
-    Code::from_le_bytes([0, len as u8, a, b, c, d, e, f])
-}
-
 /// The hand-written Rust.
 pub struct Reference;
 
@@ -190,42 +191,46 @@ fn reference_code(answer: Result<reference::Sent, u8>) -> Code {
 impl Engine for Reference {
     fn call(&self, plan: Plan, tables: &mut Tables, call: &Call) -> Code {
         use reference::{Message, Vote};
-        let plan = reference::Plan { rms: plan.rms, acceptors: plan.acceptors, leaders: plan.leaders };
+        let Plan { rms, acceptors, leaders, order } = plan;
+        let plan = reference::Plan { rms, acceptors, leaders, order };
         let [states, votes, network, inboxes] = tables;
         match call {
             Call::Read(bytes) => match reference::read(plan, bytes) {
                 Ok(message) => Code::from_le_bytes(match message {
-                    Message::Phase1a { ins, bal } => [0, 0x09, ins, 0, 0, bal, 0, 0],
-                    Message::Phase1b { ins, acc, mbal, vote: None } => [0, 0x07, ins, acc, mbal, 0, 0, 0],
+                    Message::Phase1a { ins, bal } => [0, 0x29, ins, 0, 0, bal, 0, 0],
+                    Message::Phase1b { ins, acc, mbal, vote: None } => [0, 0x27, ins, acc, mbal, 0, 0, 0],
                     Message::Phase1b { ins, acc, mbal, vote: Some(Vote { bal, val }) } => {
-                        [0, 0x1F, ins, acc, mbal, bal, val, 0]
+                        [0, 0x3F, ins, acc, mbal, bal, val, 0]
                     }
-                    Message::Phase2a { ins, bal, val } => [0, 0x19, ins, 0, 0, bal, val, 0],
-                    Message::Phase2b { ins, acc, bal, val } => [0, 0x1B, ins, acc, 0, bal, val, 0],
-                    Message::Decision { val } => [0, 0x10, 0, 0, 0, 0, val, 0],
+                    Message::Phase2a { ins, bal, val } => [0, 0x39, ins, 0, 0, bal, val, 0],
+                    Message::Phase2b { ins, acc, bal, val } => [0, 0x3B, ins, acc, 0, bal, val, 0],
+                    Message::Decision { val } => [0, 0x30, 0, 0, 0, 0, val, 0],
                 }),
                 Err(number) => number.into(),
             },
             Call::Write([map, ins, acc, mbal, bal, val]) => {
                 let (ins, acc, mbal, bal, val) = (*ins, *acc, *mbal, *bal, *val);
                 let message = match map {
-                    0x09 => Some(Message::Phase1a { ins, bal }),
-                    0x07 => Some(Message::Phase1b { ins, acc, mbal, vote: None }),
-                    0x1F => Some(Message::Phase1b { ins, acc, mbal, vote: Some(Vote { bal, val }) }),
-                    0x19 => Some(Message::Phase2a { ins, bal, val }),
-                    0x1B => Some(Message::Phase2b { ins, acc, bal, val }),
-                    0x10 => Some(Message::Decision { val }),
+                    0x29 => Some(Message::Phase1a { ins, bal }),
+                    0x27 => Some(Message::Phase1b { ins, acc, mbal, vote: None }),
+                    0x3F => Some(Message::Phase1b { ins, acc, mbal, vote: Some(Vote { bal, val }) }),
+                    0x39 => Some(Message::Phase2a { ins, bal, val }),
+                    0x3B => Some(Message::Phase2b { ins, acc, bal, val }),
+                    0x30 => Some(Message::Decision { val }),
                     _ => None,
                 };
                 // Of a map that is no message's only the plan is asked, of a message that is in every plan; then the
                 // number is 15.
                 let asked = message.unwrap_or(Message::Decision { val: 1 });
                 match (reference::write(plan, asked), message) {
-                    ((0, _, _), None) => 15,
-                    ((0, slot, len), Some(_)) => written_code(slot, len),
+                    ((0, _, _), None) => 256 * 15,
+                    ((0, slot, len), Some(_)) => {
+                        assert_eq!(len, usize::from(reference::LENGTHS[usize::from(slot[0])]));
+                        Code::from_le_bytes(slot)
+                    }
                     ((number, slot, len), _) => {
-                        assert_eq!((slot, len), ([0; 6], 0));
-                        number.into()
+                        assert_eq!((slot, len), ([0; 8], 0));
+                        256 * Code::from(number)
                     }
                 }
             }

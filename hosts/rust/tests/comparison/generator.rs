@@ -2,7 +2,7 @@
 //! sorts.
 
 use crate::case::{Call, I, N, Op, Q, Tables, W};
-use paxos_commit::{Event, MAX_SLOTS, Plan};
+use paxos_commit::{Event, MAX_SLOTS, Plan, SLOT};
 use std::collections::VecDeque;
 
 /// A small generator of random numbers (splitmix64), so that a seed gives the same histories everywhere.
@@ -30,6 +30,14 @@ impl Random {
         self.below(100) < times
     }
 
+    /// An order number; two of them are often the same, or the same in one byte.
+    pub fn order(&mut self) -> u16 {
+        match self.below(4) {
+            0 => self.next() as u16,
+            _ => u16::from_be_bytes([self.of(&[0, 1, 255]), self.of(&[0, 1, 255])]),
+        }
+    }
+
     pub fn of<T: Copy>(&mut self, list: &[T]) -> T {
         list[self.below(list.len())]
     }
@@ -53,23 +61,25 @@ pub struct Generator {
 }
 
 fn used(table: &[u8]) -> usize {
-    table.chunks_exact(6).take_while(|slot| slot[0] != 0).count()
+    table.chunks_exact(SLOT).take_while(|slot| slot[0] != 0).count()
 }
 
 impl Generator {
     pub fn new(seed: u64) -> Generator {
-        let plan = Plan { rms: 1, acceptors: 1, leaders: 1 };
+        let plan = Plan { rms: 1, acceptors: 1, leaders: 1, order: 0 };
         Generator { random: Random(seed), plan, left: 0, wants: VecDeque::new() }
     }
 
     /// The tables of a new history.
     pub fn start(&mut self) -> Tables {
         let random = &mut self.random;
-        self.plan = match random.below(20) {
-            0 | 1 => Plan { rms: 16, acceptors: 7, leaders: 4 },
-            2..=13 => Plan { rms: 1 + random.byte(3), acceptors: 1 + random.byte(5), leaders: 1 + random.byte(2) },
-            _ => Plan { rms: 1 + random.byte(16), acceptors: 1 + random.byte(7), leaders: 1 + random.byte(4) },
+        let (rms, acceptors, leaders) = match random.below(20) {
+            0 | 1 => (16, 7, 4),
+            2..=13 => (1 + random.byte(3), 1 + random.byte(5), 1 + random.byte(2)),
+            _ => (1 + random.byte(16), 1 + random.byte(7), 1 + random.byte(4)),
         };
+        let order = random.order();
+        self.plan = Plan { rms, acceptors, leaders, order };
         self.wants.clear();
         let sizes = [0, 1, 2, 3, 5, 8, 16, 16, 40, 40, 100, 100, 300];
         let mut size = || if random.percent(6) { MAX_SLOTS } else { random.of(&sizes) };
@@ -79,7 +89,7 @@ impl Generator {
         let mut tables = [
             vec![0; plan.states_len()],
             vec![0; plan.votes_len()],
-            vec![0; 6 * network],
+            vec![0; SLOT * network],
             vec![0; plan.inboxes_len(inbox)],
         ];
         if self.random.percent(50) {
@@ -88,7 +98,7 @@ impl Generator {
         let full = self.random.percent(30);
         self.fill(&mut tables[N], full);
         if inbox > 0 {
-            for part in tables[I].chunks_exact_mut(6 * inbox) {
+            for part in tables[I].chunks_exact_mut(SLOT * inbox) {
                 self.fill(part, full);
             }
         }
@@ -104,9 +114,9 @@ impl Generator {
 
     /// Mixed messages in the first slots.
     fn fill(&mut self, table: &mut [u8], full: bool) {
-        let slots = table.len() / 6;
+        let slots = table.len() / SLOT;
         let count = if full { slots - self.random.below(2).min(slots) } else { self.random.below(slots + 1) };
-        for slot in table.chunks_exact_mut(6).take(count) {
+        for slot in table.chunks_exact_mut(SLOT).take(count) {
             let message = self.message();
             slot[..message.len()].copy_from_slice(&message);
         }
@@ -125,14 +135,16 @@ impl Generator {
         let ins = self.random.byte(self.plan.rms);
         let acc = self.random.byte(self.plan.acceptors);
         let (mbal, bal, val) = (self.ballot(), self.ballot(), 1 + self.random.byte(2));
-        match self.random.below(8) {
-            0 => vec![0x09, ins, bal.max(1)],
-            1 => vec![0x07, ins, acc, mbal],
-            2 | 3 => vec![0x1F, ins, acc, mbal, bal, val],
-            4 => vec![0x19, ins, bal, val],
-            5 | 6 => vec![0x1B, ins, acc, bal, val],
-            _ => vec![0x10, val],
-        }
+        let mut message = match self.random.below(8) {
+            0 => vec![0x29, ins, bal.max(1)],
+            1 => vec![0x27, ins, acc, mbal],
+            2 | 3 => vec![0x3F, ins, acc, mbal, bal, val],
+            4 => vec![0x39, ins, bal, val],
+            5 | 6 => vec![0x3B, ins, acc, bal, val],
+            _ => vec![0x30, val],
+        };
+        message.extend(self.plan.order.to_be_bytes());
+        message
     }
 
     /// The next call of the history, which stands at these tables.
@@ -174,7 +186,7 @@ impl Generator {
     /// Another plan, other lengths, or other bytes.
     fn damage(&mut self, op: &mut Op, tables: &Tables, refused: bool) {
         let random = &mut self.random;
-        match random.below(if refused { 7 } else { 20 }) {
+        match random.below(if refused { 7 } else { 22 }) {
             0 | 1 => {
                 let place = random.below(3);
                 let bad = [[0, 17, 255], [0, 8, 200], [0, 5, 255]][place][random.below(3)];
@@ -185,22 +197,24 @@ impl Generator {
                 }
             }
             2 => {
-                op.plan = Plan { rms: 1 + random.byte(16), acceptors: 1 + random.byte(7), leaders: 1 + random.byte(4) };
+                let (rms, acceptors, leaders) = (1 + random.byte(16), 1 + random.byte(7), 1 + random.byte(4));
+                op.plan = Plan { rms, acceptors, leaders, ..op.plan };
             }
+            20 | 21 => op.plan.order = random.order(),
             3..=6 => {
                 let mut lengths = op.lengths.unwrap_or([0, 1, 2, 3].map(|table: usize| tables[table].len()));
                 let table = random.below(4);
                 let leaders = usize::from(self.plan.leaders);
-                let over = 6 * (MAX_SLOTS + 1) * if table == I { leaders } else { 1 };
+                let over = SLOT * (MAX_SLOTS + 1) * if table == I { leaders } else { 1 };
                 lengths[table] = match random.below(8) {
                     0 => 0,
                     1 => over,
-                    2 => over - 6,
-                    3 => lengths[table] + 6,
-                    4 => lengths[table].saturating_sub(6),
-                    5 => lengths[table] + 6 * leaders,
+                    2 => over - SLOT,
+                    3 => lengths[table] + SLOT,
+                    4 => lengths[table].saturating_sub(SLOT),
+                    5 => lengths[table] + SLOT * leaders,
                     6 => lengths[table].saturating_sub(1),
-                    _ => lengths[table] + 1 + random.below(6),
+                    _ => lengths[table] + 1 + random.below(SLOT),
                 };
                 op.lengths = Some(lengths);
             }
@@ -212,17 +226,17 @@ impl Generator {
                 }
                 // A place in a used slot or just after them, or anywhere.
                 let near = table == N && random.percent(70);
-                let at =
-                    if near { random.below((6 * used(bytes) + 6).min(bytes.len())) } else { random.below(bytes.len()) };
+                let most = if near { (SLOT * used(bytes) + SLOT).min(bytes.len()) } else { bytes.len() };
+                let at = random.below(most);
                 let byte = match random.below(4) {
                     0 => 0,
                     1 => random.byte(5),
-                    2 => random.of(&[0x09, 0x07, 0x1F, 0x19, 0x1B, 0x10, 0x20, 0xFF]),
+                    2 => random.of(&[0x29, 0x27, 0x3F, 0x39, 0x3B, 0x30, 0x19, 0xFF]),
                     _ => random.next() as u8,
                 };
                 if random.percent(15) {
-                    let slot = at - at % 6;
-                    op.bytes.extend((slot..(slot + 6).min(bytes.len())).map(|at| (table, at, 0)));
+                    let slot = at - at % SLOT;
+                    op.bytes.extend((slot..(slot + SLOT).min(bytes.len())).map(|at| (table, at, 0)));
                 }
                 op.bytes.push((table, at, byte));
             }
@@ -232,8 +246,8 @@ impl Generator {
     /// What the reader is given.
     fn slice(&mut self) -> Vec<u8> {
         let mut bytes = self.message();
-        match self.random.below(10) {
-            0 => (0..self.random.below(9)).map(|_| self.random.next() as u8).collect(),
+        match self.random.below(11) {
+            0 => (0..self.random.below(11)).map(|_| self.random.next() as u8).collect(),
             1 => {
                 bytes.pop();
                 bytes
@@ -247,12 +261,17 @@ impl Generator {
                 bytes
             }
             4 => {
-                bytes[0] = self.random.byte(40);
+                bytes[0] = self.random.byte(72);
                 bytes
             }
             5 | 6 => {
                 let at = self.random.below(bytes.len());
                 bytes[at] = self.random.of(&[0, 1, 2, 3, 6, 7, 15, 16, 255]);
+                bytes
+            }
+            7 => {
+                let len = bytes.len();
+                bytes[len - 2..].copy_from_slice(&self.random.order().to_be_bytes());
                 bytes
             }
             _ => bytes,
@@ -263,8 +282,8 @@ impl Generator {
     fn came(&mut self, network: &[u8]) -> Vec<u8> {
         match (self.random.below(10), used(network)) {
             (0..=3, count @ 1..) => {
-                let slot = 6 * self.random.below(count);
-                let len = (1 + network[slot].count_ones() as usize).min(6);
+                let slot = SLOT * self.random.below(count);
+                let len = (2 + network[slot].count_ones() as usize).min(SLOT);
                 network[slot..slot + len].to_vec()
             }
             (0..=6, _) => self.message(),
@@ -289,7 +308,7 @@ impl Generator {
     fn fields(&mut self) -> [u8; 6] {
         let random = &mut self.random;
         let map =
-            if random.percent(85) { random.of(&[0x09, 0x07, 0x1F, 0x19, 0x1B, 0x10]) } else { random.next() as u8 };
+            if random.percent(85) { random.of(&[0x29, 0x27, 0x3F, 0x39, 0x3B, 0x30]) } else { random.next() as u8 };
         let some = |bound: u8, random: &mut Random| match random.below(10) {
             0 => bound,
             1 => random.next() as u8,
@@ -329,7 +348,7 @@ impl Generator {
         let from = self.random.below(tables[I].len() + 1);
         let to = from + self.random.below(tables[I].len() + 1 - from);
         if self.random.percent(70) {
-            Call::Leader(from - from % 6, to - to % 6, event)
+            Call::Leader(from - from % SLOT, to - to % SLOT, event)
         } else {
             Call::Leader(from, to, event)
         }
@@ -354,7 +373,7 @@ impl Generator {
         }
         let mut slot = self.random.below(used + 1);
         for _ in 0..8 {
-            if network.get(6 * slot).is_some_and(|map| maps.contains(map)) || self.random.percent(4) {
+            if network.get(SLOT * slot).is_some_and(|map| maps.contains(map)) || self.random.percent(4) {
                 break;
             }
             slot = self.random.below(used + 1);
@@ -377,7 +396,7 @@ impl Generator {
         let kind = self.random.of(&[0, 1, 2, 2, 3, 3, 3, 4, 4, 4, 4, 5, 6, 6, 7, 8]);
         let plan = self.plan;
         let who = self.random.byte([plan.rms, plan.acceptors, plan.leaders][[0, 0, 0, 1, 2, 2, 2, 2, 2][kind]]);
-        let maps: &[u8] = [&[0x10][..], &[0x09, 0x19], &[0x07, 0x1F, 0x1B]][[0, 0, 0, 1, 2, 0, 0, 0, 0][kind]];
+        let maps: &[u8] = [&[0x30][..], &[0x29, 0x39], &[0x27, 0x3F, 0x3B]][[0, 0, 0, 1, 2, 0, 0, 0, 0][kind]];
         let [high, low] = match kind {
             2..=4 => self.slot(&tables[N], maps),
             5 => [self.random.byte(plan.rms), self.owned(who)],
@@ -387,9 +406,9 @@ impl Generator {
                 let seen = used(inbox);
                 let slot = (0..6)
                     .map(|_| self.random.below(seen + 1))
-                    .find(|&slot| matches!(inbox.get(6 * slot), Some(0x07 | 0x1F)));
+                    .find(|&slot| matches!(inbox.get(SLOT * slot), Some(0x27 | 0x3F)));
                 match slot {
-                    Some(slot) if self.random.percent(85) => [inbox[6 * slot + 1], inbox[6 * slot + 3]],
+                    Some(slot) if self.random.percent(85) => [inbox[SLOT * slot + 1], inbox[SLOT * slot + 3]],
                     _ => [self.random.byte(plan.rms), self.owned(who)],
                 }
             }
@@ -407,7 +426,7 @@ impl Generator {
             match want {
                 Want::Make(event) => return Some(event.bytes()),
                 Want::Take(kind, who, begins, length) => {
-                    let found = tables[N].chunks_exact(6).position(|slot| slot[..length] == begins[..length]);
+                    let found = tables[N].chunks_exact(SLOT).position(|slot| slot[..length] == begins[..length]);
                     if let Some(slot) = found {
                         let [high, low] = (slot as u16).to_be_bytes();
                         return Some([kind, who, high, low]);
@@ -444,21 +463,21 @@ impl Generator {
             } else {
                 wants.push_back(Want::Make(Event::Phase1a { leader, ins, bal: ballot }));
                 for acc in missing..plan.acceptors {
-                    wants.push_back(Want::Take(3, acc, [0x09, ins, ballot, 0], 3));
-                    wants.push_back(Want::Take(4, leader, [0x07, ins, acc, ballot], 4));
-                    wants.push_back(Want::Take(4, leader, [0x1F, ins, acc, ballot], 4));
+                    wants.push_back(Want::Take(3, acc, [0x29, ins, ballot, 0], 3));
+                    wants.push_back(Want::Take(4, leader, [0x27, ins, acc, ballot], 4));
+                    wants.push_back(Want::Take(4, leader, [0x3F, ins, acc, ballot], 4));
                 }
                 wants.push_back(Want::Make(Event::Phase2a { leader, ins, bal: ballot }));
             }
             for acc in missing..plan.acceptors {
-                wants.push_back(Want::Take(3, acc, [0x19, ins, ballot, 0], 3));
-                wants.push_back(Want::Take(4, leader, [0x1B, ins, acc, ballot], 4));
+                wants.push_back(Want::Take(3, acc, [0x39, ins, ballot, 0], 3));
+                wants.push_back(Want::Take(4, leader, [0x3B, ins, acc, ballot], 4));
             }
         }
         wants.push_back(Want::Make(Event::Commit { leader }));
         wants.push_back(Want::Make(Event::Abort { leader }));
         for rm in 0..plan.rms {
-            wants.push_back(Want::Take(2, rm, [0x10, 0, 0, 0], 1));
+            wants.push_back(Want::Take(2, rm, [0x30, 0, 0, 0], 1));
         }
     }
 }

@@ -1,4 +1,4 @@
-//! The linked calls beside the hand-written Rust of document 01 on random histories: answers and all four tables after
+//! The linked calls beside the hand-written Rust of documents 01 and 02 on random histories: answers and all four tables after
 //! each call, byte by byte.
 //!
 //!     PAXOS_COMMIT_SEED     another seed (a number; the same seed makes the same calls)
@@ -31,7 +31,7 @@ struct Seen {
     histories: usize,
     longest: usize,
     accepted: [[usize; 9]; CALLS.len()],
-    refused: [[usize; 18]; CALLS.len()],
+    refused: [[usize; 19]; CALLS.len()],
 }
 
 impl Seen {
@@ -72,14 +72,14 @@ fn compare(engines: [&dyn Engine; 2], seed: u64, calls: usize) -> (Seen, Option<
 
 /// What each call may answer: kinds that it accepts, and refusals.
 const POSSIBLE: [(&[usize], &[usize]); CALLS.len()] = [
-    (&[0], &[1, 15, 16, 17]),
+    (&[0], &[1, 15, 16, 17, 18]),
     (&[0], &[1, 15, 17]),
     (&[0], &[1, 2]),
     (&[0, 1, 2, 3, 4, 5, 6, 7, 8], &[1, 2, 3, 4, 5, 6, 7, 8, 9, 10, 11, 12, 13, 14]),
     (&[0, 1, 2], &[1, 2, 3, 5, 7, 8, 9, 11, 12, 13]),
     (&[3], &[1, 2, 4, 5, 7, 8, 9, 12, 13]),
     (&[4, 5, 6, 7, 8], &[1, 2, 5, 6, 7, 8, 9, 10, 12, 13, 14]),
-    (&[0], &[1, 2, 5, 13, 15, 16, 17]),
+    (&[0], &[1, 2, 5, 13, 15, 16, 17, 18]),
     (&[0, 1, 2], &[1, 2, 3]),
 ];
 
@@ -153,8 +153,8 @@ fn planted_fault_reports_acceptance_and_stores_nothing() {
         _ => None,
     });
     assert_eq!(case.ops.len(), 1);
-    assert_eq!(case.ops[0].plan, Plan { rms: 1, acceptors: 1, leaders: 1 });
-    assert!(case.tables[N].len() <= 12, "{:?}", case.tables[N]);
+    assert_eq!(case.ops[0].plan, Plan { rms: 1, acceptors: 1, leaders: 1, order: 0 });
+    assert!(case.tables[N].len() <= 16, "{:?}", case.tables[N]);
 }
 
 #[test]
@@ -162,40 +162,55 @@ fn planted_fault_refuses_a_full_network_one_slot_early() {
     let (case, mismatch) = found(|plan, tables, call| match call {
         Call::Rm(event) if event.first() == Some(&0) => {
             let code = Reference.call(plan, &mut tables.clone(), call);
-            (6 * (code + 1) == tables[N].len() as Code).then_some(65536 + 13)
+            (8 * (code + 1) == tables[N].len() as Code).then_some(65536 + 13)
         }
         _ => None,
     });
     assert_eq!(case.ops.len(), 1);
-    assert_eq!(case.tables[N], [0; 6]);
+    assert_eq!(case.tables[N], [0; 8]);
     assert_eq!(mismatch.answers, [0, 65536 + 13]);
 }
 
 #[test]
 fn planted_fault_in_the_reader() {
     let (case, _) = found(|_, _, call| match call {
-        Call::Read(bytes) if bytes.len() == 5 && bytes[0] == 0x1B && bytes[4] == 3 => Some(16),
+        Call::Read(bytes) if bytes.len() == 7 && bytes[0] == 0x3B && bytes[4] == 3 => Some(16),
         _ => None,
     });
     assert_eq!(case.ops.len(), 1);
-    assert_eq!(case.ops[0].call, Call::Read(vec![0x1B, 0, 0, 0, 3]));
-    assert!(case.tables.iter().all(|table| table.len() <= 6));
+    assert_eq!(case.ops[0].call, Call::Read(vec![0x3B, 0, 0, 0, 3, 0, 0]));
+    assert!(case.tables.iter().all(|table| table.len() <= 8));
 }
 
 #[test]
 fn planted_fault_delivers_a_message_that_stands_there_again() {
     let (case, _) = found(|plan, tables, call| match call {
         Call::Deliver(bytes) => {
-            let room = tables[N].chunks_exact(6).position(|slot| slot[0] == 0)?;
+            let room = tables[N].chunks_exact(8).position(|slot| slot[0] == 0)?;
             let code = Reference.call(plan, tables, call);
             if code < room as Code {
-                tables[N][6 * room..6 * room + bytes.len()].copy_from_slice(bytes);
+                tables[N][8 * room..8 * room + bytes.len()].copy_from_slice(bytes);
             }
             Some(code)
         }
         _ => None,
     });
     assert_eq!(case.ops.len(), 1);
-    assert_eq!(case.ops[0].plan, Plan { rms: 1, acceptors: 1, leaders: 1 });
-    assert_eq!(case.tables[N].len(), 12);
+    assert_eq!(case.ops[0].plan, Plan { rms: 1, acceptors: 1, leaders: 1, order: 0 });
+    assert_eq!(case.tables[N].len(), 16);
+}
+
+/// A message of another order is read where the two numbers have the same low byte.
+#[test]
+fn planted_fault_compares_half_of_the_order_number() {
+    let (case, mismatch) = found(|plan, tables, call| match call {
+        Call::Read(bytes) if bytes.last() == Some(&(plan.order as u8)) => {
+            let order = u16::from_be_bytes([*bytes.iter().rev().nth(1)?, plan.order as u8]);
+            Some(Reference.call(Plan { order, ..plan }, tables, call))
+        }
+        _ => None,
+    });
+    assert_eq!(case.ops.len(), 1);
+    assert_eq!(mismatch.answers[0], 18);
+    assert!(case.tables.iter().all(|table| table.len() <= 8));
 }

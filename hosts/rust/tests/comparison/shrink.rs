@@ -1,7 +1,7 @@
 //! The smallest case that still shows a mismatch: a shorter history, fewer slots, a smaller plan, smaller bytes.
 
 use crate::case::{CALLS, Call, Case, Engine, I, Mismatch, N, Op, Q, Tables, W};
-use paxos_commit::Plan;
+use paxos_commit::{Plan, SLOT};
 
 /// So many cases are tried at most.
 const TRIES: usize = 200_000;
@@ -21,6 +21,7 @@ pub fn shrink(engines: [&dyn Engine; 2], case: Case, mismatch: Box<Mismatch>) ->
     loop {
         let before = (size(&s.case), s.case.clone().ops);
         s.plan();
+        s.order();
         s.slots();
         s.bytes();
         if before == (size(&s.case), s.case.clone().ops) || s.tries >= TRIES {
@@ -120,9 +121,31 @@ impl Shrinker<'_> {
         }
     }
 
+    /// Order 0, with its messages in the tables and in the call.
+    fn order(&mut self) {
+        let mut case = self.case.clone();
+        let order = case.ops[0].plan.order;
+        for op in &mut case.ops {
+            op.plan.order = 0;
+            if let Call::Read(bytes) | Call::Deliver(bytes) = &mut op.call {
+                let end = bytes.len();
+                reorder(bytes, end, order);
+            }
+        }
+        for table in [N, I] {
+            for slot in case.tables[table].chunks_exact_mut(SLOT) {
+                let end = 2 + slot[0].count_ones() as usize;
+                reorder(slot, end, order);
+            }
+        }
+        if order != 0 {
+            self.take(case);
+        }
+    }
+
     /// Slots left out of N and of the inboxes, fewer at a time; an event's slot moves with its message.
     fn slots(&mut self) {
-        let slots = |case: &Case, table: usize| case.tables[table].len() / 6 / parts(case, table);
+        let slots = |case: &Case, table: usize| case.tables[table].len() / SLOT / parts(case, table);
         for table in [N, I] {
             let mut count = slots(&self.case, table);
             while count > 0 {
@@ -133,8 +156,8 @@ impl Shrinker<'_> {
                         let parts = parts(&case, table);
                         let length = case.tables[table].len() / parts;
                         for part in (0..parts).rev() {
-                            let start = part * length + 6 * from;
-                            case.tables[table].drain(start..start + 6 * count);
+                            let start = part * length + SLOT * from;
+                            case.tables[table].drain(start..start + SLOT * count);
                         }
                         if table == N && moved > 0 {
                             case.ops
@@ -218,6 +241,15 @@ fn earlier(event: &mut [u8], from: usize, count: usize) {
     }
 }
 
+/// The two bytes before `end` become 0 where they are this order number.
+fn reorder(bytes: &mut [u8], end: usize, order: u16) {
+    if let Some(number) = end.checked_sub(2).and_then(|from| bytes.get_mut(from..end))
+        && *number == order.to_be_bytes()
+    {
+        number.fill(0);
+    }
+}
+
 /// The tables without what a smaller plan has no place for.
 fn cut(tables: &Tables, old: Plan, new: Plan) -> Tables {
     let [mut states, votes, network, inboxes] = tables.clone();
@@ -239,7 +271,7 @@ pub fn told(case: &Case, mismatch: &Mismatch) -> String {
     use std::fmt::Write;
     let hex = |bytes: &[u8]| bytes.iter().map(|byte| format!("{byte:02X}")).collect::<Vec<_>>().join(" ");
     let table = |index: usize, bytes: &[u8]| match index {
-        N | I => bytes.chunks(6).map(hex).collect::<Vec<_>>().join(" | "),
+        N | I => bytes.chunks(SLOT).map(hex).collect::<Vec<_>>().join(" | "),
         _ => hex(bytes),
     };
     let mut out = String::new();
@@ -248,8 +280,9 @@ pub fn told(case: &Case, mismatch: &Mismatch) -> String {
         let _ = writeln!(out, "  {name} ({} bytes): {}", case.tables[index].len(), table(index, &case.tables[index]));
     }
     for (at, op) in case.ops.iter().enumerate() {
-        let Plan { rms, acceptors, leaders } = op.plan;
-        let _ = write!(out, "  call {at}: {} with n = {rms}, A = {acceptors}, L = {leaders}", CALLS[op.call.number()]);
+        let Plan { rms, acceptors, leaders, order } = op.plan;
+        let call = CALLS[op.call.number()];
+        let _ = write!(out, "  call {at}: {call} with n = {rms}, A = {acceptors}, L = {leaders}, order {order:04X}");
         let _ = match &op.call {
             Call::Read(bytes) | Call::Deliver(bytes) => writeln!(out, ", bytes {}", hex(bytes)),
             Call::Write(fields) => writeln!(out, ", map, ins, acc, mbal, bal, val {}", hex(fields)),

@@ -68,7 +68,7 @@ pub(crate) fn step(plan: Plan, votes: &mut [u8], network: &mut Row, event: Event
         }
         _ => return Err(refusal::GUARD),
     };
-    let slot = reply.slot();
+    let slot = reply.slot(plan);
     let at = network.place(&slot).ok_or(refusal::NETWORK_FULL)?;
     network.put(at, slot);
     *own = new;

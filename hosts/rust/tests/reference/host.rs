@@ -15,7 +15,8 @@ pub enum Ending {
 }
 
 /// Puts the message that these bytes are into N, unless it is there, and
-/// returns the first slot where it stands. Refuses 1, 2, 5, 13, 15, 16 and 17.
+/// returns the first slot where it stands. Refuses 1, 2, 5, 13, 15, 16, 17
+/// and 18.
 pub fn deliver(plan: Plan, network: &mut [u8], bytes: &[u8]) -> Result<usize, u8> {
     plan.check()?;
     if !fits(network.len()) {
@@ -23,7 +24,7 @@ pub fn deliver(plan: Plan, network: &mut [u8], bytes: &[u8]) -> Result<usize, u8
     }
     let rules = Rules::new(plan);
     let mut network = Row::judge(&rules, network).ok_or(refusal::NETWORK)?;
-    let slot = read(plan, bytes)?.slot();
+    let slot = read(plan, bytes)?.slot(plan);
     let at = network.place(&slot).ok_or(refusal::NETWORK_FULL)?;
     network.put(at, slot);
     Ok(at)

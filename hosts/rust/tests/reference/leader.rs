@@ -23,7 +23,7 @@ pub(crate) fn step(plan: Plan, inbox: &mut Row, network: &mut Row, event: Event)
         let (Message::Phase1b { .. } | Message::Phase2b { .. }) = message else {
             return Err(refusal::KIND);
         };
-        let slot = message.slot();
+        let slot = message.slot(plan);
         let at = inbox.place(&slot).ok_or(refusal::INBOX_FULL)?;
         inbox.put(at, slot);
         return Ok(Sent::Quiet);
@@ -41,7 +41,7 @@ pub(crate) fn step(plan: Plan, inbox: &mut Row, network: &mut Row, event: Event)
         8 if any_aborted(plan, inbox.used()) => Message::Decision { val: ABORTED },
         _ => return Err(refusal::GUARD),
     };
-    let slot = message.slot();
+    let slot = message.slot(plan);
     let at = network.place(&slot).ok_or(refusal::NETWORK_FULL)?;
     if kind == 6 {
         // The guard has found no such 2a in the inbox.

@@ -1,9 +1,10 @@
-//! Message bytes: a bit map, then one byte for each field whose bit stands.
+//! Message bytes: a bit map, then one byte for each field whose bit stands,
+//! then the order number, high byte first, for bit 5, which always stands.
 
 use super::{Plan, refusal};
 
-/// A message followed by zeros, or six zeros.
-pub(crate) type Slot = [u8; 6];
+/// A message followed by zeros, or eight zeros.
+pub(crate) type Slot = [u8; 8];
 
 pub(crate) const PREPARED: u8 = 1;
 pub(crate) const ABORTED: u8 = 2;
@@ -12,22 +13,22 @@ const INS: u8 = 1;
 const ACC: u8 = 2;
 const VAL: u8 = 16;
 
-pub(crate) const MAP_1A: u8 = 0x09;
-pub(crate) const MAP_1B: u8 = 0x07;
-pub(crate) const MAP_1B_VOTE: u8 = 0x1F;
-pub(crate) const MAP_2A: u8 = 0x19;
-pub(crate) const MAP_2B: u8 = 0x1B;
-pub(crate) const MAP_DECISION: u8 = 0x10;
+pub(crate) const MAP_1A: u8 = 0x29;
+pub(crate) const MAP_1B: u8 = 0x27;
+pub(crate) const MAP_1B_VOTE: u8 = 0x3F;
+pub(crate) const MAP_2A: u8 = 0x39;
+pub(crate) const MAP_2B: u8 = 0x3B;
+pub(crate) const MAP_DECISION: u8 = 0x30;
 
 /// The length of a message by its map, 0 for an unknown map.
-pub const LENGTHS: [u8; 32] = {
-    let mut lengths = [0; 32];
-    lengths[MAP_1A as usize] = 3;
-    lengths[MAP_1B as usize] = 4;
-    lengths[MAP_1B_VOTE as usize] = 6;
-    lengths[MAP_2A as usize] = 4;
-    lengths[MAP_2B as usize] = 5;
-    lengths[MAP_DECISION as usize] = 2;
+pub const LENGTHS: [u8; 64] = {
+    let mut lengths = [0; 64];
+    lengths[MAP_1A as usize] = 5;
+    lengths[MAP_1B as usize] = 6;
+    lengths[MAP_1B_VOTE as usize] = 8;
+    lengths[MAP_2A as usize] = 6;
+    lengths[MAP_2B as usize] = 7;
+    lengths[MAP_DECISION as usize] = 4;
     lengths
 };
 
@@ -63,17 +64,18 @@ impl Message {
         }
     }
 
-    /// The message's slot; no field is judged.
-    pub(crate) fn slot(self) -> Slot {
+    /// The message's slot in the plan's order; no field is judged.
+    pub(crate) fn slot(self, plan: Plan) -> Slot {
+        let [high, low] = plan.order.to_be_bytes();
         match self {
-            Message::Phase1a { ins, bal } => [MAP_1A, ins, bal, 0, 0, 0],
-            Message::Phase1b { ins, acc, mbal, vote: None } => [MAP_1B, ins, acc, mbal, 0, 0],
+            Message::Phase1a { ins, bal } => [MAP_1A, ins, bal, high, low, 0, 0, 0],
+            Message::Phase1b { ins, acc, mbal, vote: None } => [MAP_1B, ins, acc, mbal, high, low, 0, 0],
             Message::Phase1b { ins, acc, mbal, vote: Some(Vote { bal, val }) } => {
-                [MAP_1B_VOTE, ins, acc, mbal, bal, val]
+                [MAP_1B_VOTE, ins, acc, mbal, bal, val, high, low]
             }
-            Message::Phase2a { ins, bal, val } => [MAP_2A, ins, bal, val, 0, 0],
-            Message::Phase2b { ins, acc, bal, val } => [MAP_2B, ins, acc, bal, val, 0],
-            Message::Decision { val } => [MAP_DECISION, val, 0, 0, 0, 0],
+            Message::Phase2a { ins, bal, val } => [MAP_2A, ins, bal, val, high, low, 0, 0],
+            Message::Phase2b { ins, acc, bal, val } => [MAP_2B, ins, acc, bal, val, high, low, 0],
+            Message::Decision { val } => [MAP_DECISION, val, high, low, 0, 0, 0, 0],
         }
     }
 
@@ -82,77 +84,88 @@ impl Message {
         match *slot {
             [MAP_1A, ins, bal, ..] => Message::Phase1a { ins, bal },
             [MAP_1B, ins, acc, mbal, ..] => Message::Phase1b { ins, acc, mbal, vote: None },
-            [MAP_1B_VOTE, ins, acc, mbal, bal, val] => {
+            [MAP_1B_VOTE, ins, acc, mbal, bal, val, ..] => {
                 Message::Phase1b { ins, acc, mbal, vote: Some(Vote { bal, val }) }
             }
             [MAP_2A, ins, bal, val, ..] => Message::Phase2a { ins, bal, val },
-            [MAP_2B, ins, acc, bal, val, _] => Message::Phase2b { ins, acc, bal, val },
+            [MAP_2B, ins, acc, bal, val, ..] => Message::Phase2b { ins, acc, bal, val },
             [_, val, ..] => Message::Decision { val },
         }
     }
 }
 
-/// Reads a slice that is exactly one message; refuses 1, 15, 16 and 17.
+/// Reads a slice that is exactly one message; refuses 1, 15, 16, 17 and 18.
 pub fn read(plan: Plan, bytes: &[u8]) -> Result<Message, u8> {
     plan.check()?;
     let message = match *bytes {
-        [MAP_1A, ins, bal] => Message::Phase1a { ins, bal },
-        [MAP_1B, ins, acc, mbal] => Message::Phase1b { ins, acc, mbal, vote: None },
-        [MAP_1B_VOTE, ins, acc, mbal, bal, val] => Message::Phase1b { ins, acc, mbal, vote: Some(Vote { bal, val }) },
-        [MAP_2A, ins, bal, val] => Message::Phase2a { ins, bal, val },
-        [MAP_2B, ins, acc, bal, val] => Message::Phase2b { ins, acc, bal, val },
-        [MAP_DECISION, val] => Message::Decision { val },
+        [MAP_1A, ins, bal, _, _] => Message::Phase1a { ins, bal },
+        [MAP_1B, ins, acc, mbal, _, _] => Message::Phase1b { ins, acc, mbal, vote: None },
+        [MAP_1B_VOTE, ins, acc, mbal, bal, val, _, _] => {
+            Message::Phase1b { ins, acc, mbal, vote: Some(Vote { bal, val }) }
+        }
+        [MAP_2A, ins, bal, val, _, _] => Message::Phase2a { ins, bal, val },
+        [MAP_2B, ins, acc, bal, val, _, _] => Message::Phase2b { ins, acc, bal, val },
+        [MAP_DECISION, val, _, _] => Message::Decision { val },
         [map, ..] if LENGTHS.get(usize::from(map)).is_some_and(|&length| length != 0) => {
             return Err(refusal::SIZE);
         }
         _ => return Err(refusal::MAP),
     };
-    if message.allowed(plan) { Ok(message) } else { Err(refusal::FIELD) }
+    if !message.allowed(plan) {
+        return Err(refusal::FIELD);
+    }
+    // The order number is the last two bytes of every message.
+    match bytes.last_chunk() {
+        Some(&order) if u16::from_be_bytes(order) == plan.order => Ok(message),
+        _ => Err(refusal::ORDER),
+    }
 }
 
-/// Writes a message: 0, its six bytes and its length; or 1 or 17, six zeros
-/// and 0.
-pub fn write(plan: Plan, message: Message) -> (u8, [u8; 6], usize) {
+/// Writes a message of the plan's order: 0, its eight bytes and its length;
+/// or 1 or 17, eight zeros and 0.
+pub fn write(plan: Plan, message: Message) -> (u8, Slot, usize) {
     if let Err(number) = plan.check() {
-        return (number, [0; 6], 0);
+        return (number, [0; 8], 0);
     }
     if !message.allowed(plan) {
-        return (refusal::FIELD, [0; 6], 0);
+        return (refusal::FIELD, [0; 8], 0);
     }
-    let slot = message.slot();
+    let slot = message.slot(plan);
     (0, slot, usize::from(LENGTHS[usize::from(slot[0])]))
 }
 
 /// A slot as a number, its first byte the lowest.
 #[inline]
 pub(crate) fn word(slot: &Slot) -> u64 {
-    let [a, b, c, d, e, f] = *slot;
-    u64::from_le_bytes([a, b, c, d, e, f, 0, 0])
+    u64::from_le_bytes(*slot)
 }
 
-/// The allowed bytes of a slot, by the five bits of its map and under one
-/// plan: the least value of each byte, and how far it may exceed that. Slots
-/// are judged as eight bytes, one load each; the last two are not the slot's
-/// and may be anything.
+/// The allowed bytes of a slot, by the lower five bits of its map and under
+/// one plan: the least value of each byte, and how far it may exceed that.
 #[derive(Clone, Copy)]
 pub(crate) struct Rules {
     least: [[u8; 8]; 32],
     span: [[u8; 8]; 32],
 }
 
-/// The rules for one weight and one acceptor.
+/// The place of a map's rules.
+const fn place(map: u8) -> usize {
+    (map & 31) as usize
+}
+
+/// The rules for one weight, one acceptor and order 0.
 static LEAST_PLAN: Rules = {
-    let mut rules = Rules { least: [[0; 8]; 32], span: [[0, 0, 0, 0, 0, 0, 255, 255]; 32] };
-    let mut map = 0;
-    while map < 32 {
-        let (least, span) = (&mut rules.least[map as usize], &mut rules.span[map as usize]);
+    let mut rules = Rules { least: [[0; 8]; 32], span: [[0; 8]; 32] };
+    let mut map = 32;
+    while map < 64 {
+        let (least, span) = (&mut rules.least[place(map)], &mut rules.span[place(map)]);
         let length = LENGTHS[map as usize] as usize;
-        // The map itself, all eight bits. A byte whose five bits are an
-        // unknown map is never one more than that.
+        // The map itself, all eight bits. A byte whose five bits are those
+        // of an unknown map is never one more than that.
         least[0] = if length == 0 { map + 1 } else { map };
         let mut at = 1 + (map & INS != 0) as usize + (map & ACC != 0) as usize;
-        while at < length {
-            let last = at == length - 1;
+        while at + 2 < length {
+            let last = at + 2 == length - 1;
             (least[at], span[at]) = if last && map & VAL != 0 {
                 (1, 1)
             } else if last && map == MAP_1A {
@@ -171,17 +184,23 @@ impl Rules {
     pub fn new(plan: Plan) -> Rules {
         let mut rules = LEAST_PLAN;
         for map in [MAP_1A, MAP_1B, MAP_1B_VOTE, MAP_2A, MAP_2B] {
-            rules.span[usize::from(map)][1] = plan.rms - 1;
+            rules.span[place(map)][1] = plan.rms - 1;
         }
         for map in [MAP_1B, MAP_1B_VOTE, MAP_2B] {
-            rules.span[usize::from(map)][2] = plan.acceptors - 1;
+            rules.span[place(map)][2] = plan.acceptors - 1;
+        }
+        let [high, low] = plan.order.to_be_bytes();
+        for map in [MAP_1A, MAP_1B, MAP_1B_VOTE, MAP_2A, MAP_2B, MAP_DECISION] {
+            let length = usize::from(LENGTHS[usize::from(map)]);
+            rules.least[place(map)][length - 2] = high;
+            rules.least[place(map)][length - 1] = low;
         }
         rules
     }
 
-    /// Whether each slot is a readable message with zeros after it. Slots
-    /// come with any two bytes after them. There is no branch, and all bytes
-    /// of all slots take the same steps, so that it vectorises.
+    /// Whether each slot is a readable message with zeros after it. There is
+    /// no branch, and all bytes of all slots take the same steps, so that it
+    /// vectorises.
     #[inline(always)]
     pub fn readable<const SLOTS: usize>(&self, words: [u64; SLOTS]) -> bool {
         let least = words.map(|word| self.least[(word & 31) as usize]);
@@ -204,24 +223,33 @@ mod tests {
     /// The rules judge a slot as the reader does, with zeros after it.
     #[test]
     fn rules_are_the_reader() {
-        let bytes = [0, 1, 2, 3, 6, 7, 8, 15, 16, 17, 127, 128, 129, 254, 255];
-        for plan in [(1, 1), (2, 7), (16, 7), (16, 1), (7, 3)] {
-            let plan = Plan { rms: plan.0, acceptors: plan.1, leaders: 1 };
+        let bytes = [0, 1, 2, 3, 6, 7, 15, 16, 128, 255];
+        for plan in [(1, 1, 0), (2, 7, 0x0102), (16, 7, 0xFF00), (16, 1, 0x0080), (7, 3, 0x0303)] {
+            let plan = Plan { rms: plan.0, acceptors: plan.1, leaders: 1, order: plan.2 };
             let rules = Rules::new(plan);
             for map in 0..=255u8 {
                 let known = LENGTHS.get(usize::from(map)).is_some_and(|&length| length != 0);
-                for code in 0..bytes.len().pow(if known { 5 } else { 2 }) {
-                    let mut slot = [map; 6];
-                    let mut code = code;
-                    for byte in &mut slot[1..] {
+                let length = LENGTHS.get(usize::from(map)).map_or(0, |&length| usize::from(length));
+                // The fields are any of these bytes; what follows them is right, or one byte of it is another.
+                let fields = if known { length - 3 } else { 2 };
+                let mut right = [0; 8];
+                if known {
+                    right[length - 2..length].copy_from_slice(&plan.order.to_be_bytes());
+                }
+                for number in 0..bytes.len().pow(fields as u32) {
+                    let mut slot = right;
+                    slot[0] = map;
+                    let mut code = number;
+                    for byte in &mut slot[1..=fields] {
                         *byte = bytes[code % bytes.len()];
                         code /= bytes.len();
                     }
-                    let length = LENGTHS.get(usize::from(map)).map_or(0, |&length| usize::from(length));
-                    let literal = read(plan, &slot[..length]).is_ok() && slot[length..] == [0; 6][length..];
-                    assert_eq!(rules.readable([word(&slot)]), literal, "{slot:02X?} {plan:?}");
-                    // The two bytes after a slot change nothing.
-                    assert_eq!(rules.readable([word(&slot) | 0xFFFF << 48; 3]), literal);
+                    for at in fields..8 {
+                        let mut slot = slot;
+                        slot[at] ^= u8::from(at > fields) << (number % 8);
+                        let literal = read(plan, &slot[..length]).is_ok() && slot[length..] == [0; 8][length..];
+                        assert_eq!(rules.readable([word(&slot); 3]), literal, "{slot:02X?} {plan:?}");
+                    }
                 }
             }
         }

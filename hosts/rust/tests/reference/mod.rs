@@ -1,14 +1,16 @@
-//! Document 01 in Rust by hand, for the tests and the benchmark of the crate
-//! above; it is no part of it. It was written from the document alone, by
-//! someone who had not seen the proved source; the delivery and the ending,
-//! which the document has not as calls, from their description (see `host`).
+//! Document 01 in Rust by hand, with the order number of document 02, Paper 1,
+//! for the tests and the benchmark of the crate above; it is no part of it.
+//! Document 01's part was written from the document alone, by someone who had
+//! not seen the proved source; the delivery and the ending, which the document
+//! has not as calls, from their description (see `host`). The order number was
+//! added from Paper 1's text, by someone who had seen the proved byte form.
 //! The tests use its public functions only.
 //!
 //! A record is four byte tables, lent to every call:
 //!
 //! * `states` (W): a byte for each weight;
 //! * `votes` (Q): mbal, bal and val for each instance and acceptor;
-//! * `network` (N): slots of six bytes, the used ones first;
+//! * `network` (N): slots of eight bytes, the used ones first;
 //! * `inboxes` (I): one such row of slots for each leader.
 //!
 //! Tables and events may be any bytes of any length. A call that refuses
@@ -69,6 +71,8 @@ pub mod refusal {
     pub const SIZE: u8 = 16;
     /// A field is out of range.
     pub const FIELD: u8 = 17;
+    /// Another order number.
+    pub const ORDER: u8 = 18;
 }
 
 /// The parties of a transaction.
@@ -80,6 +84,8 @@ pub struct Plan {
     pub acceptors: u8,
     /// Leaders, 1 to 4.
     pub leaders: u8,
+    /// The order number.
+    pub order: u16,
 }
 
 impl Plan {

@@ -74,7 +74,7 @@ impl<'a> Record<'a> {
     pub fn step(&mut self, event: &[u8]) -> Result<Sent, u8> {
         let event = Event::read(self.plan, event, 0, 8)?;
         match event.kind {
-            0..=2 => weight::step(self.states, &mut self.network, event),
+            0..=2 => weight::step(self.plan, self.states, &mut self.network, event),
             3 => acceptor::step(self.plan, self.votes, &mut self.network, event),
             _ => {
                 let inbox = self.inboxes[usize::from(event.who)].as_mut().ok_or(refusal::EVENT)?;

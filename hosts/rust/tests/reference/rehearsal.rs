@@ -34,13 +34,13 @@ pub fn rehearse_by_calls(input: &[u8]) -> String {
 }
 
 fn plan(input: &[u8]) -> Option<(Plan, &[u8])> {
-    let (&[rms, acceptors, leaders], events) = input.split_first_chunk()?;
-    let plan = Plan { rms, acceptors, leaders };
+    let (&[rms, acceptors, leaders, high, low], events) = input.split_first_chunk()?;
+    let plan = Plan { rms, acceptors, leaders, order: u16::from_be_bytes([high, low]) };
     plan.check().is_ok().then_some((plan, events))
 }
 
 fn tables(plan: Plan) -> [Vec<u8>; 4] {
-    let slots = 6 * MOST;
+    let slots = 8 * MOST;
     [usize::from(plan.rms), acceptor::length(plan), slots, slots * usize::from(plan.leaders)]
         .map(|length| vec![0; length])
 }

@@ -7,7 +7,7 @@ pub(crate) const MOST: usize = 1024;
 
 /// Whether a row of this many bytes is whole slots, and not too many.
 pub(crate) fn fits(bytes: usize) -> bool {
-    bytes.is_multiple_of(6) && bytes <= 6 * MOST
+    bytes.is_multiple_of(8) && bytes <= 8 * MOST
 }
 
 /// A row that has been judged: `used` messages, then unused slots.
@@ -21,7 +21,7 @@ impl<'a> Row<'a> {
     pub fn judge(rules: &Rules, bytes: &'a mut [u8]) -> Option<Row<'a>> {
         // An unused slot isn't readable: it and all after it must be zeros.
         let used = readable(rules, bytes);
-        let ok = zeros(&bytes[6 * used..]);
+        let ok = zeros(&bytes[8 * used..]);
         let (slots, _) = bytes.as_chunks_mut();
         ok.then_some(Row { slots, used })
     }
@@ -44,7 +44,7 @@ impl<'a> Row<'a> {
     /// Where a message stands first, or else the first unused slot.
     pub fn place(&self, slot: &Slot) -> Option<usize> {
         let sought = word(slot);
-        words(self.used()).position(|word| word == sought).or_else(|| self.room())
+        position(self.used(), sought).or_else(|| self.room())
     }
 
     /// Stores a message at a place that `place` or `room` gave.
@@ -58,40 +58,26 @@ impl<'a> Row<'a> {
 /// together while they are all readable, then each by itself.
 #[inline(never)]
 fn readable(rules: &Rules, bytes: &[u8]) -> usize {
-    let mut rest = bytes;
-    // Each slot is loaded with the two bytes after it.
-    while let Some(block) = rest.first_chunk::<50>() {
-        if !rules.readable::<8>(std::array::from_fn(|slot| load(block, 6 * slot))) {
-            break;
-        }
-        rest = &rest[48..];
-    }
-    let (slots, _) = rest.as_chunks();
-    let alone = slots.iter().take_while(|slot| rules.readable([word(slot)])).count();
-    (bytes.len() - rest.len()) / 6 + alone
+    let (slots, _) = bytes.as_chunks();
+    let (blocks, _) = slots.as_chunks::<8>();
+    let whole = blocks.iter().take_while(|block| rules.readable(block.each_ref().map(word))).count();
+    let alone = slots[8 * whole..].iter().take_while(|slot| rules.readable([word(slot)])).count();
+    8 * whole + alone
 }
 
-/// Slots as numbers. Made for inner iteration (`position`, `fold`): four
-/// slots at a time, each with a single load of eight bytes.
+/// The first slot that is this number. Sixteen slots are compared together
+/// while none of them is, so that it vectorises.
+fn position(slots: &[Slot], sought: u64) -> Option<usize> {
+    let (blocks, _) = slots.as_chunks::<16>();
+    let other = |block: &&[Slot; 16]| !block.iter().fold(false, |any, slot| any | (word(slot) == sought));
+    let passed = 16 * blocks.iter().take_while(other).count();
+    words(&slots[passed..]).position(|word| word == sought).map(|at| passed + at)
+}
+
+/// Slots as numbers, a single load each.
 #[inline]
 pub(crate) fn words(slots: &[Slot]) -> impl Iterator<Item = u64> + '_ {
-    let (fours, rest) = slots.as_chunks::<4>();
-    fours.iter().flat_map(four_words).chain(rest.iter().map(word))
-}
-
-#[inline(always)]
-fn four_words(slots: &[Slot; 4]) -> [u64; 4] {
-    const SIX: u64 = (1 << 48) - 1;
-    let bytes = slots.as_flattened();
-    [load(bytes, 0) & SIX, load(bytes, 6) & SIX, load(bytes, 12) & SIX, load(bytes, 16) >> 16]
-}
-
-/// Eight bytes as a number.
-#[inline(always)]
-fn load(bytes: &[u8], at: usize) -> u64 {
-    let mut eight = [0; 8];
-    eight.copy_from_slice(&bytes[at..at + 8]);
-    u64::from_le_bytes(eight)
+    slots.iter().map(word)
 }
 
 /// Whether all bytes are zero; without an early end, so that it vectorises.

@@ -23,7 +23,7 @@ pub fn rm_step(plan: Plan, states: &mut [u8], network: &mut [u8], event: &[u8]) 
     judge(states)?;
     let rules = Rules::new(plan);
     let mut network = Row::judge(&rules, network).ok_or(refusal::NETWORK)?;
-    step(states, &mut network, Event::read(plan, event, 0, 2)?)
+    step(plan, states, &mut network, Event::read(plan, event, 0, 2)?)
 }
 
 pub(crate) fn judge(states: &[u8]) -> Result<(), u8> {
@@ -31,7 +31,7 @@ pub(crate) fn judge(states: &[u8]) -> Result<(), u8> {
     if states.iter().fold(0, |any, state| any | state) <= State::ABORTED { Ok(()) } else { Err(refusal::STATES) }
 }
 
-pub(crate) fn step(states: &mut [u8], network: &mut Row, event: Event) -> Result<Sent, u8> {
+pub(crate) fn step(plan: Plan, states: &mut [u8], network: &mut Row, event: Event) -> Result<Sent, u8> {
     let state = &mut states[usize::from(event.who)];
     if event.kind == 2 {
         let Message::Decision { val } = network.message(event.slot()).ok_or(refusal::SLOT)? else {
@@ -51,7 +51,7 @@ pub(crate) fn step(states: &mut [u8], network: &mut Row, event: Event) -> Result
         0 => (State::PREPARED, PREPARED),
         _ => (State::ABORTED, ABORTED),
     };
-    let slot = Message::Phase2a { ins: event.who, bal: 0, val }.slot();
+    let slot = Message::Phase2a { ins: event.who, bal: 0, val }.slot(plan);
     let at = network.place(&slot).ok_or(refusal::NETWORK_FULL)?;
     network.put(at, slot);
     *state = next;

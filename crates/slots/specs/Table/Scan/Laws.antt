@@ -1,9 +1,9 @@
 -- The laws of the steps on a judged table.
---     sameBytes-length, -refl, -true        comparing byte by byte
+--     readUsed-unused, -used                a slot by the reader
+--     sameBytes-true, -refl, -false         comparing byte by byte
 --     locateFrom-free, -at, -next, -end     looking slot by slot
 --     storeAt-in, storeAt-out               the table after a store
--- Laws/Word.antt has the bytes of a slot as one number. Assumes nothing.
-pub mod Word
+-- Assumes nothing.
 use Prim.Native.Nat.{ℕ, _+_, _*_, _/_, _≤_, _<_}
 use mathlib.Core.Bool.{Bool, true, false, false≢true}
 use mathlib.Core.List.{List, [], _∷_, _++_}
@@ -12,10 +12,23 @@ use native.Mathlib.Numerals.{add-one}
 use lib.ListN.{length, getD, take, drop, drop-of-length-le}
 use lib.Seq.{drop-cons}
 use borrow.Author.Tests.{eq-eqb, ne-eqb, eqb-true, lt-ltb, le-ltb}
+use Rattle.message.specs.declared.Plan.{Plan}
+use Rattle.message.specs.Outcome.{refused, refuseIf}
+use Rattle.message.specs.Outcome.Laws.{both}
+use Rattle.message.specs.Form.{mapLength}
+use Rattle.message.specs.Codec.{readMessage}
 use Rattle.slots.specs.declared.Place.the-variants.{At, Free, Full}
 use Rattle.slots.specs.Table.{slotSize, sameBytes, storeAt}
-use Rattle.message.specs.Outcome.Laws.{both}
-use Rattle.slots.specs.Table.Scan.{locateFrom}
+use Rattle.slots.specs.Table.Scan.{readUsed, locateFrom}
+
+module _ (p : Plan) (s : List ℕ) where
+  pub readUsed-unused : getD s 0 0 ≡ 0 → readUsed p s ≡ refused 8
+  unfolding readUsed refuseIf
+  readUsed-unused e = rw (eq-eqb _ _ e)
+
+  pub readUsed-used : (getD s 0 0 ≡ 0 → ⊥) → readUsed p s ≡ readMessage p (take (mapLength (getD s 0 0)) s)
+  unfolding readUsed refuseIf
+  readUsed-used n = rw (ne-eqb _ _ n)
 
 pub sameBytes-true : (a b : List ℕ) → sameBytes a b ≡ true → a ≡ b
 unfolding sameBytes

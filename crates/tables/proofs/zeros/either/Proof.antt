@@ -3,5 +3,8 @@ use Rattle.slots.proofs.Zeros.{or-zero}
 use Rattle.tables.proofs.zeros.either.Statement.{statement}
 use Rattle.tables.proofs.zeros.either.Tie as tie
 
+returns : tie.Need-returns
+returns c = or-zero (c .args .a) (c .args .b)
+
 pub either-spec : {M : Type 1} → statement M
-either-spec = tie.close (tie.spec (λ c. or-zero (c .args .a) (c .args .b)))
+either-spec = tie.close (tie.spec returns)
