@@ -15,6 +15,7 @@
 --     deliver-answers, deliver-keeps, deliver-sends     a delivery answers the lowest number that applies; a refused one changes no byte of N; an accepted one
 --                             has put the message that the bytes are into N, and answers the first slot where it stands
 --     other-order-bytes, other-order-stands     row 18 applies to another order's message, and row 5 where it stands in N
+--     orders-apart-delivery   so neither is accepted
 -- In document 01's numbers: Words.antt. As behaviours of module PaxosCommit: Behaviour.antt. Assumes nothing.
 use Prim.Native.Nat.{ℕ, _%_, _≤_}
 use mathlib.Core.Bool.{Bool, true, false, false≢true}
@@ -42,7 +43,7 @@ use Rattle.paxos_commit.specs.PaxosCommit.{Val, Message, phase2a, phase2b, Comm
 use Rattle.paxos_commit.specs.PaxosCommit.Laws.{decided-kept}
 use Rattle.paxos_commit.specs.PaxosCommit.Safety.Agreement.{consistent, chosen-2a, chosen-2b, one-chosen, never-both}
 use Rattle.matching.specs.Reading.{isRM, isAcceptor, isMajoritySet, setOf}
-use Rattle.matching.specs.Call.{Sends}
+use Rattle.matching.specs.Call.{Accepted, Sends}
 use Rattle.matching.specs.Theorems.{majorities-meet}
 use Rattle.safety.specs.Grounds.Zeros.{messages-zeros}
 use Rattle.deliver.specs.Deliver.{deliverStep}
@@ -177,3 +178,10 @@ module _ (p q : Plan) (differs : p .order ≡ q .order → ⊥) (m : Wire.Messag
 
   pub other-order-stands : List·Memᴰ (slotOf q m) (slots network) → (bytes : List ℕ) → Applies (deliverRows p network bytes) 5
   other-order-stands there bytes = below (below (here (refl, (foreign-table p q differs m network there, tt))))
+
+  pub orders-apart-delivery : (Accepted (deliverStep p network (bytesOf q m) .answer) → ⊥)
+      × (List·Memᴰ (slotOf q m) (slots network) → (bytes : List ℕ) → Accepted (deliverStep p network bytes .answer) → ⊥)
+  orders-apart-delivery = (
+    (λ taken. deliver-answers p network (bytesOf q m) .accepts .0 taken 18 other-order-bytes),
+    λ there bytes taken. deliver-answers p network bytes .accepts .0 taken 5 (other-order-stands there bytes),
+  )

@@ -22,7 +22,7 @@ use Rattle.slots.specs.Table.Scan.{peekTable}
 use Rattle.slots.specs.View.Bytes.{leadingMessages}
 use Rattle.quorum.specs.Quorum.{isMajority}
 use Rattle.quorum.specs.Mask.{insertBit, join, ones}
-use Rattle.inbox.specs.Inbox.Slots.{messageAt, messageCases, ahead, ahead-used}
+use Rattle.inbox.specs.Inbox.Slots.{messageAt, slotCases, ahead, ahead-used}
 use Rattle.inbox.specs.Inbox.Votes.{Tally, tally, joined, tallied, voteStep, smallBallot, Counts, counts-next}
 
 same-pair : (a b c d x y : ℕ) → (x ≡ 256 * a + b) × (b < 256) → (y ≡ 256 * c + d) × (d < 256) → x ≡ y → (a ≡ c) × (b ≡ d)
@@ -38,7 +38,7 @@ module _ (t : List ℕ) (at : ℕ) where
   small-ballot : byte 3 < 256 → smallBallot (messageAt t at) ≡ true
   unfolding smallBallot
   small-ballot h =
-      messageCases t at (λ map m. smallBallot m ≡ true)
+      slotCases t at (λ map m. smallBallot m ≡ true)
       refl
       refl
       refl
@@ -53,7 +53,7 @@ module _ (t : List ℕ) (at : ℕ) where
     vote-step : (s : Tally) → cond (counts map) (tallied p s (byte 1) (byte 2) (byte 3)) s ≡ voteStep p v s (messageAt t at)
     unfolding voteStep counts
     vote-step s =
-        messageCases t at
+        slotCases t at
         (λ map m. cond (counts map) (tallied p s (byte 1) (byte 2) (byte 3)) s ≡ voteStep p v s m)
         refl
         refl

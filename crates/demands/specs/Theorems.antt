@@ -4,10 +4,11 @@
 --     demand-2, -acts, -sets, -copies, -published      accepted exactly where the published action is enabled and no other row applies; what is then set
 --     demand-3, -words      over every list of event calls from a fresh record
 --     byte-form, -written   a slice is read as a message exactly where it is the one form of that message
--- For every plan, so for each order number; what keeps other orders out is Orders.antt. Assumes nothing.
+--     orders-apart, -roles  no call accepts what another order's writer gives, not as a slice and not from a table; by which rows: Orders.antt
+-- For every plan, so for each order number. Assumes nothing.
 use Prim.Native.Nat.{ℕ, _<_}
 use mathlib.Core.Bool.{true}
-use mathlib.Core.List.{List}
+use mathlib.Core.List.{List, List·Memᴰ}
 use mathlib.Core.Logic.{_↔_}
 use mathlib.Core.Path.{_≡_, refl}
 use lib.ListN.{take}
@@ -18,13 +19,14 @@ use Rattle.message.specs.Rows.{Applies}
 use Rattle.message.specs.Plan.{isPlan}
 use Rattle.message.specs.Form.{bytesOf, isInRange}
 use Rattle.message.specs.Codec.{readMessage, writeMessage}
-use Rattle.message.specs.Theorems.{answer, reader-answers, writer-answers, read-exactly, written-exactly}
+use Rattle.message.specs.Theorems.{answer, form, reader-answers, writer-answers, read-exactly, written-exactly, other-written}
+use Rattle.slots.specs.Table.{slots}
 use Rattle.event.specs.Event.{kindOf}
 use Rattle.paxos_commit.specs.PaxosCommit.{State, initial, PCStep}
 use Rattle.rm.specs.Rm.{rmStep}
 use Rattle.acceptor.specs.Acceptor.{acceptorStep}
 use Rattle.leader.specs.Leader.{leaderStep}
-use Rattle.record.specs.Record.{Tables, recordStep, recordOpen}
+use Rattle.record.specs.Record.{Tables, inboxOf, recordStep, recordOpen}
 use Rattle.matching.specs.Reading.{isRM, isAcceptor, isMajoritySet}
 use Rattle.matching.specs.Call.{Accepted, Enabled}
 use Rattle.matching.specs.Theorems.{rm-answers, rm-keeps, acceptor-answers, acceptor-keeps, leader-answers, leader-keeps}
@@ -39,6 +41,7 @@ use Rattle.safety.specs.Words.{SafeInWords}
 use Rattle.safety.specs.Behaviour.{action-published}
 use Rattle.demands.specs.Answer.{AcceptedOr, KeepsOwn}
 use Rattle.demands.specs.Answer.Laws.{isWithin, accepted-or}
+use Rattle.demands.specs.Orders.Laws.{network-row, inbox-row, rm-row, acceptor-row, leader-row, leader-inbox-row}
 
 module _ (p : Plan) (t : Tables) where
   pub demand-1 : (e : List ℕ)
@@ -114,3 +117,29 @@ module _ (p : Plan) (m : Message) where
   pub byte-form-written : (writeMessage p m .number ≡ 0)
       ↔ ((isPlan p ≡ true) × (isInRange p m ≡ true) × (take (writeMessage p m .len) (writeMessage p m .bytes) ≡ bytesOf p m))
   byte-form-written = written-exactly p m
+
+-- document 02, Paper 1: "a Commit of the other order must not reach this one". p is this order's plan, and q another order's, whose writer gives m:
+-- its form followed by zeros, as it stands in a slot
+module _ (p q : Plan) (differs : p .order ≡ q .order → ⊥) (m : Message) (given : writeMessage q m .number ≡ 0) where
+  pub orders-apart :
+      ((n : Message) → readMessage p (form (writeMessage q m)) ≡ accepted n → ⊥)
+      × ((t : Tables) (e : List ℕ) → List·Memᴰ (writeMessage q m .bytes) (slots (t .network)) → Accepted (recordStep p t e .answer) → ⊥)
+      × ((t : Tables) (e : List ℕ) (l : ℕ) → l < p .leaders → List·Memᴰ (writeMessage q m .bytes) (slots (inboxOf p (t .inboxes) l))
+      → Accepted (recordStep p t e .answer) → ⊥)
+  orders-apart = (
+    (λ n. other-written p q m n differs given),
+    (λ t e there taken. record-answers p t e .accepts .0 taken 5 (network-row p q differs m given t e there)),
+    λ t e l own there taken. record-answers p t e .accepts .0 taken 6 (inbox-row p q differs m given t e l own there),
+  )
+
+  pub orders-apart-roles : (table network e : List ℕ)
+      → (List·Memᴰ (writeMessage q m .bytes) (slots network) → Accepted (rmStep p table network e .answer) → ⊥)
+      × (List·Memᴰ (writeMessage q m .bytes) (slots network) → Accepted (acceptorStep p table network e .answer) → ⊥)
+      × (List·Memᴰ (writeMessage q m .bytes) (slots network) → Accepted (leaderStep p table network e .answer) → ⊥)
+      × (List·Memᴰ (writeMessage q m .bytes) (slots table) → Accepted (leaderStep p table network e .answer) → ⊥)
+  orders-apart-roles table network e = (
+    (λ there taken. rm-answers p table network e (λ i a. initial) .accepts .0 taken 5 (rm-row p q differs m given table network e _ there)),
+    (λ there taken. acceptor-answers p table network e (λ i. 0) .accepts .0 taken 5 (acceptor-row p q differs m given table network e _ there)),
+    (λ there taken. leader-answers p table network e (λ i. 0) (λ i a. initial) .accepts .0 taken 5 (leader-row p q differs m given table network e _ there)),
+    λ there taken. leader-answers p table network e (λ i. 0) (λ i a. initial) .accepts .0 taken 6 (leader-inbox-row p q differs m given table network e _ there),
+  )

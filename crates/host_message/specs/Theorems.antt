@@ -10,14 +10,14 @@
 --     one-written           no number stands for two answers of the writer, whose eight bytes are bytes
 --     read-examples, write-examples, other-examples     numbers that the reader and the writer give, computed: every field has a value of its own
 -- Assumes nothing.
-use Prim.Native.Nat.{ℕ, _*_, _-_, _%_, _≤_, _<_}
+use Prim.Native.Nat.{ℕ, _+_, _*_, _-_, _%_, _≤_, _<_}
 use mathlib.Core.Bool.{Bool, true, false, not}
 use mathlib.Core.List.{List, [], _∷_}
 use mathlib.Core.Logic.{_⊎_, inl, inr, _↔_}
 use mathlib.Core.Path.{_≡_, refl, sym, _∙_, ap}
 use native.Mathlib.Omega.{arith}
 use lib.Dec.{eqb}
-use borrow.Author.Tests.{ne-eqb, eqb-false}
+use borrow.Author.Tests.{ne-eqb}
 use lib.ListN.{length, getD, take, drop, replicate}
 use Rattle.message.specs.declared.Plan.{Plan}
 use Rattle.message.specs.declared.Message.{Message}
@@ -27,6 +27,8 @@ use Rattle.message.specs.Outcome.Laws.{accepted-inj, accepted-not-refused}
 use Rattle.message.specs.Outcome.{refuseIf}
 use Rattle.message.specs.Plan.{isCount, isPlan}
 use Rattle.message.specs.Form.{isValue, isVote, isInRange, bytesOf1b, bytesOf, messageLength, slotSize, slotOf, mapLengths, mapLength, fieldsMessage, decode, hasOrder}
+use Rattle.message.specs.Form.{map1a, map1b, map1bVote, map2a, map2b, mapDecision}
+use Rattle.message.specs.Form.Maps.{length-1a, length-1b, length-1b-vote, length-2a, length-2b, length-decision}
 use Rattle.message.specs.Form.Laws.{messageCases, mapLength-bytesOf, take-slotOf, drop-slotOf, first-bytesOf}
 use Rattle.message.specs.Codec.{readMessage, written, writeMessage}
 use Rattle.message.specs.Codec.Laws.{writeMessage-plan}
@@ -84,12 +86,21 @@ module _ (p : Plan) where
   host-plan map ins acc mbal bal val bad = rw bad
 
   pub host-unknown : (map ins acc mbal bal val : ℕ) → isPlan p ≡ true → mapLength map ≡ 0 → hostWrite p map ins acc mbal bal val ≡ written p (refused 15)
-  unfolding hostWrite refuseIf messageOf mapLength mapLengths
+  unfolding hostWrite refuseIf messageOf
   host-unknown map ins acc mbal bal val good none =
-      rw (good, other 0x29 refl, other 0x27 refl, other 0x3F refl, other 0x39 refl, other 0x3B refl, other 0x30 refl)
+      rw (
+        good,
+        other map1a 4 length-1a,
+        other map1b 5 length-1b,
+        other map1bVote 7 length-1b-vote,
+        other map2a 5 length-2a,
+        other map2b 6 length-2b,
+        other mapDecision 3 length-decision,
+      )
     where
-      other : (k : ℕ) → eqb (mapLength k) 0 ≡ false → eqb map k ≡ false
-      other k some = ne-eqb map k (λ e. eqb-false (mapLength k) 0 some (ap mapLength (sym e) ∙ none))
+      -- a map with a length
+      other : (k n : ℕ) → mapLength k ≡ n + 1 → eqb map k ≡ false
+      other k n some = ne-eqb map k (λ e. let z : n + 1 ≡ 0 = sym some ∙ ap mapLength (sym e) ∙ none in omega arith)
 
 -- a refusal of the reader is its number
 pub read-refused : (k : ℕ) → readCode (refused k) ≡ k

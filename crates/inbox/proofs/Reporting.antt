@@ -17,7 +17,7 @@ use Rattle.message.specs.Form.{map1b, map1bVote, map2a}
 use Rattle.quorum.specs.Mask.{join}
 use Rattle.inbox.specs.declared.Gathered.{Gathered}
 use Rattle.inbox.specs.Inbox.{higher}
-use Rattle.inbox.specs.Inbox.Slots.{messageAt, messageCases, message-1b, message-1b-vote, message-2a}
+use Rattle.inbox.specs.Inbox.Slots.{messageAt, slotCases, message-1b, message-1b-vote, message-2a}
 use Rattle.inbox.specs.Inbox.Reports.{reportStep, higher-none}
 
 module _ (i b : ℕ) (g : Gathered) (t : List ℕ) (at : ℕ) where
@@ -37,7 +37,7 @@ module _ (i b : ℕ) (g : Gathered) (t : List ℕ) (at : ℕ) where
   pub skip-other : Skips map (messageAt t at)
   unfolding reportStep
   skip-other =
-      messageCases t at Skips
+      slotCases t at Skips
       (λ of2a of1b of1bVote. refl)
       (λ of2a of1b of1bVote. rw (of1b refl))
       (λ of2a of1b of1bVote. rw (of1bVote refl))

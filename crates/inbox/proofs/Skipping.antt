@@ -1,10 +1,10 @@
 -- Blocks of slots that are passed at once for Phase2a.
---     word-1b, word-2a                    the word of a 1b, and of a 2a, of the instance and ballot is the one sought
+--     word-1b, word-2a                    the part of a 1b's word, and of a 2a's, of the instance and ballot is the one sought
 --     none-start, none-next, none-fewer   no word so far is sought: before the first, one word further, of fewer words
 --     used-met                            all slots so far are in use, one slot further
 --     gathers-block                       a block that is passed adds nothing to what was gathered
 -- Assumes nothing.
-use Prim.Native.Nat.{ℕ, zero, suc, _+_, _*_, _%_, _≤_, _<_}
+use Prim.Native.Nat.{ℕ, zero, suc, _+_, _*_, _≤_, _<_}
 use mathlib.Core.Bool.{_&&_, false}
 use mathlib.Core.List.{List}
 use mathlib.Core.Path.{_≡_, _∙_, subst}
@@ -24,7 +24,7 @@ use Rattle.slots.proofs.Zeros.{or-none}
 use Rattle.inbox.specs.declared.Gathered.{Gathered}
 use Rattle.inbox.specs.Inbox.Slots.{messageAt, ahead, ahead-used}
 use Rattle.inbox.specs.Inbox.Reports.{reportStep, Gathers, gathers-next}
-use Rattle.inbox.specs.Inbox.Blocks.{blockSlots, Unsought, NoneSought, Passed}
+use Rattle.inbox.specs.Inbox.Blocks.{blockSlots, part1b, part2a, Unsought, NoneSought, Passed}
 use Rattle.inbox.proofs.Reporting.{skip-other}
 
 -- two bytes of which the higher is kept
@@ -34,17 +34,17 @@ high-byte high low h l =
 
 -- four bytes of which the second and the fourth are kept
 module _ {b0 b1 b2 b3 w : ℕ} (x : Word b0 b1 b2 b3 w) where
-  kept : bitAnd w 0xFF00FF00 ≡ b1 * 0x100 + b3 * 0x1000000
+  kept : part1b w ≡ b1 * 0x100 + b3 * 0x1000000
   kept =
       let low : b1 * 256 + b0 < 65536 = omega (arith, x) in
       let same : (b3 * 256 + b2) * 65536 + (b1 * 256 + b0) ≡ w = omega (arith, x .sum) in
       rw same at (and-block 16 (b3 * 256 + b2) 0xFF00 (b1 * 256 + b0) 0xFF00 low (lit< tt))
       ∙ rw (high-byte b3 b2 (omega (arith, x)) (omega (arith, x)), high-byte b1 b0 (omega (arith, x)) (omega (arith, x))) (omega arith)
 
-  pub word-1b : {i b v : ℕ} → Word 0 i 0 b v → b1 ≡ i → b3 ≡ b → bitAnd w 0xFF00FF00 ≡ v
+  pub word-1b : {i b v : ℕ} → Word 0 i 0 b v → b1 ≡ i → b3 ≡ b → part1b w ≡ v
   word-1b y e l = kept ∙ omega (arith, y .sum, e, l)
 
-  pub word-2a : {i b v : ℕ} → Word map2a i b 0 v → b0 ≡ map2a → b1 ≡ i → b2 ≡ b → w % 0x1000000 ≡ v
+  pub word-2a : {i b v : ℕ} → Word map2a i b 0 v → b0 ≡ map2a → b1 ≡ i → b2 ≡ b → part2a w ≡ v
   word-2a y k e l = omega (arith, x .sum, x .digit3, y .sum, k, e, l)
 
 module _ (i b : ℕ) (t : List ℕ) (at : ℕ) where
@@ -53,7 +53,7 @@ module _ (i b : ℕ) (t : List ℕ) (at : ℕ) where
 
   -- `w` is the word at k; `v` and `u` are the words sought
   pub none-next : (k w v u hit s : ℕ) → Word 0 i 0 b v → Word map2a i b 0 u → WordFrom t (at + k * wordSize) w
-      → (s ≡ 0 → (bitAnd w 0xFF00FF00 ≡ v → ⊥) × (w % 0x1000000 ≡ u → ⊥))
+      → (s ≡ 0 → (part1b w ≡ v → ⊥) × (part2a w ≡ u → ⊥))
       → (hit ≡ 0 → NoneSought i b t at k) → bitOr hit s ≡ 0 → NoneSought i b t at (k + 1)
   none-next k w v u hit s of-1b of-2a reads other before z =
       let zeros = or-none hit s z in

@@ -7,8 +7,7 @@
 ghost use mathlib.Core.Bool.{true};
 ghost use mathlib.Core.List.{[]};
 ghost use mathlib.Core.Path.{_≡_};
-ghost use Prim.Native.Nat.{_+_, _/_, _%_, _≤_};
-ghost use lib.Bits.{bitAnd};
+ghost use Prim.Native.Nat.{_+_, _/_, _≤_};
 ghost use lib.ListN.{length};
 ghost use Rattle.slots.specs.Table.{slotSize};
 ghost use Rattle.slots.specs.Table.Scan.{peekTable};
@@ -17,7 +16,7 @@ ghost use Rattle.slots.specs.Table.Words.{wordSize, WordFrom, AllUsed};
 ghost use Rattle.inbox.specs.Inbox.{higher, reportsOf};
 ghost use Rattle.inbox.specs.Inbox.Slots.{messageAt};
 ghost use Rattle.inbox.specs.Inbox.Reports.{reportStep, Gathers};
-ghost use Rattle.inbox.specs.Inbox.Blocks.{blockSlots, blockSize, blockWords, NoneSought, Passed};
+ghost use Rattle.inbox.specs.Inbox.Blocks.{blockSlots, blockSize, blockWords, part1b, part2a, NoneSought, Passed};
 use message::ACC;
 use message::BAL_1B;
 use message::BAL_2A;
@@ -120,10 +119,10 @@ const BLOCK_SIZE: usize = BLOCK_SLOTS * SLOT_SIZE;
 
 const BLOCK_WORDS: usize = BLOCK_SIZE / WORD_SIZE;
 
-// Of the first word of a 1b the bytes of its instance and its ballot; the first word without its last byte is what it leaves when divided
-// by the other.
+// The bytes of a slot's first word where a 1b has its instance and its ballot.
 const INS_AND_MBAL: u32 = 0xFF00_FF00;
 
+// A word divided by this leaves its first three bytes: of a 2a map, instance and ballot.
 const THREE_BYTES: u32 = 0x100_0000;
 
 // Four bytes from an index on as one number.
@@ -134,9 +133,9 @@ fn word_from(bytes: &[u8], at: usize) -> u32
     slots::word(bytes[at], bytes[at + 1], bytes[at + 2], bytes[at + 3])
 }
 
-// Not zero where a slot with this first word may be a 1b, or is a 2a, of which these are the words.
+// Not zero where a slot with this first word may be the 1b, or is the 2a, of which these are the parts.
 fn sought(word: u32, of_1b: u32, of_2a: u32) -> u32
-    ensures { λ r. ⌜ (r ≡ 0 → (bitAnd word 0xFF00FF00 ≡ «of_1b» → ⊥) × (word % 0x1000000 ≡ «of_2a» → ⊥)) ⌝ }
+    ensures { λ r. ⌜ (r ≡ 0 → (part1b word ≡ «of_1b» → ⊥) × (part2a word ≡ «of_2a» → ⊥)) ⌝ }
 {
     if word & INS_AND_MBAL == of_1b {
         return 1;

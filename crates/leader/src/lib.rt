@@ -142,8 +142,8 @@ fn evaluate_kind(plan: Plan, inbox: &[u8], network: &[u8], event: &[u8], kind: u
     decide_send(plan, network, decided::is_decided_some(plan, inbox, 2), 2)
 }
 
-// What the event comes to: 1 for the plan, 7 where it is no event of a leader, then 8, 9, 10, 12, 13 or 14. It judges no table: in one that nobody judged the
-// reader may refuse the slot with 15, 17 or 18.
+// What the event comes to: 1 for the plan, 7 where it is no event of a leader, then 8, 9, 10, 12, 13 or 14. It judges no table: in one that
+// nobody judged the reader may refuse the slot with 15, 17 or 18.
 pub fn evaluate(plan: Plan, inbox: &[u8], network: &[u8], event: &[u8]) -> Verdict
     ensures { λ r. ⌜ verdictOutcome r ≡
         leaderVerdict plan (viewBytes plan (now (inbox .entry))) (viewBytes plan (now (network .entry))) (now (event .entry)) ⌝ }

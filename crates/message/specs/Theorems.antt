@@ -74,7 +74,7 @@ reader-numbers p bytes k e = number (reader-answers p bytes .refuses k .0 e .0)
     number (below (below (below (below (here h))))) = inr (omega (arith, h .0), omega (arith, h .0))
     number (below (below (below (below (below none))))) = absurd (none tt)
 
--- a message of another order number is 18 where nothing else is wrong with it; whatever the other order's writer gives, it is not read
+-- a message of another order number is 18 where nothing else is wrong with it
 pub other-order : (p q : Plan) (m : Message) → isPlan p ≡ true → isInRange p m ≡ true → (p .order ≡ q .order → ⊥) → readMessage p (bytesOf q m) ≡ refused 18
 other-order = readMessage-other
 
@@ -125,6 +125,7 @@ other-order-row p q m differs =
       ),
     )))))
 
+-- whatever another order's writer gives, it is not read
 pub other-written : (p q : Plan) (m n : Message) → (p .order ≡ q .order → ⊥) → writeMessage q m .number ≡ 0 → readMessage p (form (writeMessage q m)) ≡ accepted n → ⊥
 other-written p q m n differs e is =
     let w = writes q m e in
@@ -216,8 +217,8 @@ unfolding mapLength mapLengths
 map-lengths = refl
 
 -- "high byte first"
-pub order-bytes : (p : Plan) → 256 * getD (orderBytes p) 0 0 + getD (orderBytes p) 1 0 ≡ p .order
-order-bytes p = omega arith
+pub order-bytes : (p : Plan) → (256 * getD (orderBytes p) 0 0 + getD (orderBytes p) 1 0 ≡ p .order) × (getD (orderBytes p) 1 0 < 256)
+order-bytes p = (omega arith, omega arith)
 
 pub order-bytes-example : orderBytes (record { rms = 1; acceptors = 1; leaders = 1; order = 0x0102 }) ≡ 1 ∷ 2 ∷ []
 order-bytes-example = refl

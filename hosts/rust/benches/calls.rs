@@ -311,6 +311,11 @@ fn write_by_hand(plan: reference::Plan, message: reference::Message) -> (u8, Mes
 }
 
 #[inline(never)]
+fn length_by_hand(map: u8) -> u8 {
+    reference::LENGTHS.get(usize::from(map)).copied().unwrap_or(0)
+}
+
+#[inline(never)]
 fn open_by_hand(plan: reference::Plan, tables: &mut Tables) -> Result<(), u8> {
     let Tables { states, votes, network, inboxes } = tables;
     reference::open(plan, states, votes, network, inboxes)
@@ -614,6 +619,13 @@ impl Report {
             || write_by_hand(*black_box(&REFERENCE_PLAN), *black_box(&message)),
         );
         self.line("write a 2a", 1.0, 1, times);
+        for (name, map) in [("length of a 2b", 0x3B), ("length of an unknown map", 0x32)] {
+            let times = time_plain(
+                || paxos_commit::Message::length(*black_box(&map)),
+                || length_by_hand(*black_box(&map)),
+            );
+            self.line(name, 1.0, 1, times);
+        }
         self.deliveries();
         // Both on the same tables: how long clearing takes depends on where they lie.
         let tables = RefCell::new(Tables::fresh());

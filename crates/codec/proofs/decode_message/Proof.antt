@@ -4,6 +4,27 @@ use Rattle.message.specs.Form.Maps.{decode-fields}
 use Rattle.codec.proofs.decode_message.Statement.{statement}
 use Rattle.codec.proofs.decode_message.Tie as tie
 
+byte-at-requires : tie.Need-byte-at-requires
+byte-at-requires c κs = tt
+
+byte-at-requires-2 : tie.Need-byte-at-requires-2
+byte-at-requires-2 c κs = tt
+
+byte-at-requires-3 : tie.Need-byte-at-requires-3
+byte-at-requires-3 c κs = tt
+
+byte-at-requires-4 : tie.Need-byte-at-requires-4
+byte-at-requires-4 c κs = tt
+
+byte-at-requires-5 : tie.Need-byte-at-requires-5
+byte-at-requires-5 c κs = tt
+
+byte-at-requires-6 : tie.Need-byte-at-requires-6
+byte-at-requires-6 c κs = tt
+
+fields-message-requires : tie.Need-fields-message-requires
+fields-message-requires c κs = tt
+
 returns : tie.Need-returns
 returns c =
     let at-5 = c .before in
@@ -25,4 +46,12 @@ returns c =
 pub decode-message-spec : {M : Type 1} → statement M
 decode-message-spec =
     tie.close
-    (tie.spec (λ c κs. tt) (λ c κs. tt) (λ c κs. tt) (λ c κs. tt) (λ c κs. tt) (λ c κs. tt) (λ c κs. tt) returns)
+    (tie.spec
+    byte-at-requires
+    byte-at-requires-2
+    byte-at-requires-3
+    byte-at-requires-4
+    byte-at-requires-5
+    byte-at-requires-6
+    fields-message-requires
+    returns)

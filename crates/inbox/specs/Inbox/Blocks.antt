@@ -1,11 +1,13 @@
 -- Blocks of slots that Phase2a passes at once.
 --     blockSlots, blockSize, blockWords   the slots of a block, its bytes and its words
+--     part1b, part2a                      what of a slot's first word tells a 1b of an instance and ballot, and a 2a
 --     Unsought, NoneSought                by its first word a slot is no 1b and no 2a of the instance and ballot; none of so many is
 --     Passed                              nor is a slot of a block unused
 -- Assumes nothing.
-use Prim.Native.Nat.{ℕ, _+_, _*_, _/_, _≤_, _<_}
+use Prim.Native.Nat.{ℕ, _+_, _*_, _/_, _%_, _≤_, _<_}
 use mathlib.Core.List.{List}
 use mathlib.Core.Path.{_≡_}
+use lib.Bits.{bitAnd}
 use lib.ListN.{length, getD}
 use Rattle.message.specs.Form.{map2a}
 use Rattle.slots.specs.Table.{slotSize}
@@ -22,6 +24,14 @@ blockSize = blockSlots * slotSize
 -- its words
 abbrev pub blockWords : ℕ
 blockWords = blockSize / wordSize
+
+-- of four bytes as one number the second and the fourth, where a 1b has ins and mbal
+abbrev pub part1b : ℕ → ℕ
+part1b w = bitAnd w 0xFF00FF00
+
+-- the first three: of a 2a map, ins and bal
+abbrev pub part2a : ℕ → ℕ
+part2a w = w % 0x1000000
 
 -- the four bytes from `at` on begin no 1b and no 2a of instance i and ballot b; whether the first is the map of a 1b is not asked
 pub record Unsought (i b : ℕ) (t : List ℕ) (at : ℕ) : Type 0 where

@@ -1,6 +1,6 @@
 -- The messages of the inbox as a loop meets them, slot by slot, in the inbox's own bytes.
 --     messageAt                 the message that the bytes from an index on make
---     messageCases              a rule that is shown for the six maps holds of it
+--     slotCases                 a rule that is shown for the six maps holds of it
 --     message-1b, -1b-vote, -2a     what it is where the map is known
 --     ahead                     the messages from a slot on
 --     ahead-used, -unused, -end     one message further, and none left
@@ -35,7 +35,7 @@ module _ (t : List ℕ) (at : ℕ) where
   abbrev byte : ℕ → ℕ
   byte k = getD t (at + k) 0
 
-  pub messageCases : (P : ℕ → Message → Type 0)
+  pub slotCases : (P : ℕ → Message → Type 0)
       → P map1a (Phase1a (byte 1) (byte 2))
       → P map1b (Phase1b (byte 1) (byte 2) (byte 3) None)
       → P map1bVote (Phase1b (byte 1) (byte 2) (byte 3) (Cast (byte 4) (byte 5)))
@@ -44,7 +44,7 @@ module _ (t : List ℕ) (at : ℕ) where
       → ((k : ℕ) → Other k → P k (Decision (byte 1)))
       → P map (messageAt t at)
   unfolding messageAt
-  messageCases P of1a of1b of1bVote of2a of2b other =
+  slotCases P of1a of1b of1bVote of2a of2b other =
       fieldsCases (byte 1) (byte 2) (byte 3) (byte 4) (byte 5) P of1a of1b of1bVote of2a of2b other map
 
   pub message-1b : map ≡ map1b → messageAt t at ≡ Phase1b (byte 1) (byte 2) (byte 3) None

@@ -23,7 +23,7 @@ use Rattle.message.specs.Outcome.{Outcome, accepted, refused, refuseIf, 
 use Rattle.message.specs.Outcome.Laws.{accepted-inj, refuseIf-accepted, refuseIf-zero}
 use Rattle.message.specs.Plan.{isPlan}
 use Rattle.message.specs.Form.{bytesOf, messageLength, mapLength, decode, isInRange, hasOrder}
-use Rattle.message.specs.Form.Laws.{messageLength-length, messageLength-bounds, mapLength-bytesOf, decode-bytesOf, bytesOf-decode, hasOrder-bytesOf, hasOrder-other}
+use Rattle.message.specs.Form.Laws.{messageLength-length, messageLength-bounds, mapLength-bytesOf, decode-bytesOf, bytesOf-decode, hasOrder-bytesOf, hasOrder-other, bytesOf-order}
 use Rattle.message.specs.Form.Laws.{mapLength-zero, mapLength-least}
 use Rattle.message.specs.Codec.{readMessage, writeMessage, written}
 
@@ -79,18 +79,6 @@ readMessage-other p q m h i differs =
     )
 
 -- and whatever the counts, it is not read
-pub readMessage-of-other : (p q : Plan) (m n : Message) → (p .order ≡ q .order → ⊥) → readMessage p (bytesOf q m) ≡ accepted n → ⊥
-unfolding readMessage
-readMessage-of-other p q m n differs e =
-    let plan = refuseIf-accepted _ _ _ _ e in
-    let nonempty = refuseIf-accepted _ _ _ _ (plan .1) in
-    let known = refuseIf-accepted _ _ _ _ (nonempty .1) in
-    let len = refuseIf-accepted _ _ _ _ (known .1) in
-    let range = refuseIf-accepted _ _ _ _ (len .1) in
-    let order = refuseIf-accepted _ _ _ _ (range .1) in
-    let has = not-false _ (order .0) in
-    false≢true (sym (hasOrder-other p q differs m) ∙ ap (λ (len : ℕ). hasOrder p len (bytesOf q m)) (sym (mapLength-bytesOf q m)) ∙ has)
-
 pub readMessage-form : (p : Plan) (bytes : List ℕ) (m : Message) → readMessage p bytes ≡ accepted m → FormOf p m bytes
 unfolding readMessage
 readMessage-form p bytes m e =
@@ -106,6 +94,9 @@ readMessage-form p bytes m e =
       inRange = rw m-is at (not-false (isInRange p (decode bytes)) (range .0));
       bytes-form = sym (bytesOf-decode p bytes (eqb-false _ _ (known .0)) (eqb-true _ _ (not-false _ (len .0))) (not-false _ (order .0))) ∙ ap (bytesOf p) m-is;
     }
+
+pub readMessage-of-other : (p q : Plan) (m n : Message) → (p .order ≡ q .order → ⊥) → readMessage p (bytesOf q m) ≡ accepted n → ⊥
+readMessage-of-other p q m n differs e = bytesOf-order p q n m differs (sym (readMessage-form p (bytesOf q m) n e .bytes-form))
 
 -- no message has no bytes
 pub readMessage-none : (p : Plan) (m : Message) → readMessage p [] ≡ accepted m → ⊥
