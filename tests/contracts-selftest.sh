@@ -88,6 +88,26 @@ damage "$call" 'the C header declares' 's/-> u32$/-> u64/'
 damage "$call" 'the C header declares' 's/^    bytes: &\[u8\],$/&\n    len: u8,/'
 damage "$call" 'which is not exported' 's/^pub extern "C" fn/pub fn/'
 damage "$call" 'does not declare paxos_commit_delivery' 's/fn paxos_commit_deliver(/fn paxos_commit_delivery(/'
+damage "$call" 'the C header declares' 's/bytes: &\[u8\]/bytes: \&[u16]/'
+damage "$call" 'the C header declares' 's/bytes: &\[u8\]/bytes: \&[u8; 4]/'
+damage "$call" 'the C header declares' "s/bytes: &\\[u8\\]/bytes: \\&'a mut [u8]/"
+plant "$code" 'paxos_commit_deliver is exported twice' 'pub extern "C" fn paxos_commit_deliver(x: u8) -> u32 ensures { λ r. ⌜ r ≡ x ⌝ } { x as u32 }'
+cp "$copy/hosts/c/paxos_commit.h" "$copy/header"
+declared() { # WORDS LINES
+    printf '%s\n' "$2" >>"$copy/hosts/c/paxos_commit.h"
+    see "$1"
+    cp "$copy/header" "$copy/hosts/c/paxos_commit.h"
+}
+declared nothing '/* uint32_t paxos_commit_none(uint8_t x); */'
+declared 'which is not exported' 'uint32_t paxos_commit_none(uint8_t x);'
+declared 'which is not exported' 'uint32_t Paxos_Commit (uint8_t x);'
+declared 'declares paxos_commit_deliver twice' 'uint32_t paxos_commit_deliver(uint8_t x);'
+declared 'hides what is declared' '#define uint8_t uint16_t'
+declared 'hides what is declared' '#if 0'
+declared 'hides what is declared' '#ifdef __cplusplus
+uint32_t paxos_commit_none(uint8_t x);
+#endif'
+declared 'a line that goes on' '#define PAXOS_COMMIT_X 1 \'
 
 # What a public `ensures` names: the result, each parameter, and what is lent at entry and at exit.
 promise nothing 'λ r. ⌜ r ≡ add x (now (s .entry)) ⌝'

@@ -2,6 +2,7 @@
 --     message-of-zero       byte 0 of the reader's number is 0 exactly for a message
 --     one-message           no number stands for two messages; a message's fields are bytes
 --     messageOf-fieldsOf    the map and the fields of a message are, for the writer, that message
+--     fields-mean, message-means     the map and the fields of each message, in numbers; what the writer takes them for
 --     host-writes, host-plan, host-unknown     it gives what document 01's writer gives under the same plan; 1, then 15
 --     read-refused          a refusal of the reader is its number
 --     Answer, host-answers  an answer of the writer: a form or a refusal; the writer by map and fields gives no other
@@ -20,7 +21,9 @@ use lib.Dec.{eqb}
 use borrow.Author.Tests.{ne-eqb}
 use lib.ListN.{length, getD, take, drop, replicate}
 use Rattle.message.specs.declared.Plan.{Plan}
+use Rattle.message.specs.declared.Vote.the-variants.{None, Cast}
 use Rattle.message.specs.declared.Message.{Message}
+use Rattle.message.specs.declared.Message.the-variants.{Phase1a, Phase1b, Phase2a, Phase2b, Decision}
 use Rattle.message.specs.declared.Written.{Written}
 use Rattle.message.specs.Outcome.{Outcome, accepted, refused}
 use Rattle.message.specs.Outcome.Laws.{accepted-inj, accepted-not-refused}
@@ -67,6 +70,27 @@ one-message m m′ h h′ e =
     accepted-inj (sym (messageOf-fieldsOf m)
     ∙ ap (λ (f : List ℕ). messageOf (getD f 0 0) (getD f 1 0) (getD f 2 0) (getD f 3 0) (getD f 4 0) (getD f 5 0)) same
     ∙ messageOf-fieldsOf m′)
+
+-- in the order map, ins, acc, mbal, bal, val: what the reader answers of each message, and what the writer takes; a field that the message does
+-- not have is 0, and is not looked at
+pub fields-mean : (i a m b v : ℕ)
+    → (fieldsOf (Phase1a i b) ≡ 0x29 ∷ i ∷ 0 ∷ 0 ∷ b ∷ 0 ∷ [])
+    × (fieldsOf (Phase1b i a m None) ≡ 0x27 ∷ i ∷ a ∷ m ∷ 0 ∷ 0 ∷ [])
+    × (fieldsOf (Phase1b i a m (Cast b v)) ≡ 0x3F ∷ i ∷ a ∷ m ∷ b ∷ v ∷ [])
+    × (fieldsOf (Phase2a i b v) ≡ 0x39 ∷ i ∷ 0 ∷ 0 ∷ b ∷ v ∷ [])
+    × (fieldsOf (Phase2b i a b v) ≡ 0x3B ∷ i ∷ a ∷ 0 ∷ b ∷ v ∷ [])
+    × (fieldsOf (Decision v) ≡ 0x30 ∷ 0 ∷ 0 ∷ 0 ∷ 0 ∷ v ∷ [])
+fields-mean i a m b v = (refl, refl, refl, refl, refl, refl)
+
+pub message-means : (i a m b v : ℕ)
+    → (messageOf 0x29 i a m b v ≡ accepted (Phase1a i b))
+    × (messageOf 0x27 i a m b v ≡ accepted (Phase1b i a m None))
+    × (messageOf 0x3F i a m b v ≡ accepted (Phase1b i a m (Cast b v)))
+    × (messageOf 0x39 i a m b v ≡ accepted (Phase2a i b v))
+    × (messageOf 0x3B i a m b v ≡ accepted (Phase2b i a b v))
+    × (messageOf 0x30 i a m b v ≡ accepted (Decision v))
+unfolding messageOf
+message-means i a m b v = (refl, refl, refl, refl, refl, refl)
 
 -- the writer by map and fields gives for a message what document 01's writer gives, under the same plan; 1 for a plan out of range, and then 15
 -- for what is no map

@@ -187,19 +187,22 @@ pub extern "C" fn paxos_commit_write(
 }
 
 // How many bytes the message has that begins with this map; 0 for what is no map, as the 0 that a refusal of the writer begins with. By
-// cases: the length of a given map is found when this is compiled.
+// cases, so that each length is found when this is compiled; in two groups of three, as in `refusal`.
 #[no_mangle]
 pub extern "C" fn paxos_commit_length(map: u8) -> u32
     ensures { λ r. ⌜ r ≡ mapLength map ⌝ }
 {
-    if map == MAP_1A {
-        return message::map_length(MAP_1A) as u32;
-    }
-    if map == MAP_1B {
-        return message::map_length(MAP_1B) as u32;
-    }
-    if map == MAP_1B_VOTE {
-        return message::map_length(MAP_1B_VOTE) as u32;
+    if map < MAP_2A {
+        if map == MAP_1A {
+            return message::map_length(MAP_1A) as u32;
+        }
+        if map == MAP_1B {
+            return message::map_length(MAP_1B) as u32;
+        }
+        if map == MAP_DECISION {
+            return message::map_length(MAP_DECISION) as u32;
+        }
+        return 0;
     }
     if map == MAP_2A {
         return message::map_length(MAP_2A) as u32;
@@ -207,8 +210,8 @@ pub extern "C" fn paxos_commit_length(map: u8) -> u32
     if map == MAP_2B {
         return message::map_length(MAP_2B) as u32;
     }
-    if map == MAP_DECISION {
-        return message::map_length(MAP_DECISION) as u32;
+    if map == MAP_1B_VOTE {
+        return message::map_length(MAP_1B_VOTE) as u32;
     }
     0
 }
