@@ -151,16 +151,16 @@ pub fn perform(plan: Plan, states: &mut [u8], network: &mut [u8], event: &[u8]) 
     change::apply(plan, states, network, verdict)
 }
 
-// Whether every byte of W is a state; where one is not, 3.
+// Whether every byte of W is a state; where one is not, 3. The states are the numbers of two bits, so each byte is one exactly where all
+// bits together are.
 pub fn are_states(states: &[u8]) -> bool
     ensures { λ r. ⌜ r ≡ areStates (now (states .entry)) ⌝ }
 {
+    let mut bits = 0;
     let mut i = 0;
     while i < states.len() {
-        if RmState::ABORTED < states[i] {
-            return false;
-        }
+        bits = bits | states[i];
         i += 1;
     }
-    true
+    bits <= RmState::ABORTED
 }
