@@ -4,7 +4,10 @@
 //
 //     are_states             row 3 of "Refusals by place"
 //     evaluate, perform      what an event comes to, and that stored (see the crate change)
+ghost use mathlib.Core.Bool.{cond};
 ghost use mathlib.Core.Path.{_≡_};
+ghost use lib.Dec.{eqb};
+ghost use Rattle.tcommit.specs.RmState.{prepared, aborted};
 ghost use Rattle.slots.specs.View.Bytes.{viewBytes};
 ghost use Rattle.change.specs.Change.{verdictOutcome, stepOf, applied};
 ghost use Rattle.rm.specs.Rm.{areStates, rmChoose, rmDecided, rmReceiveDecision, rmReceive, rmKind, rmVerdict};
@@ -105,15 +108,37 @@ fn receive(who: u8, state: u8, m: Message) -> Verdict
     }
 }
 
-// What an event of kinds 0, 1 and 2 comes to; for kind 2 the slot's message is taken by the reader, 8 where there is none.
+// What kinds 0 and 1 set and send: prepared, or aborted.
+fn chosen_state(kind: u8) -> u8
+    ensures { λ r. ⌜ r ≡ cond (eqb kind 0) prepared aborted ⌝ }
+{
+    if kind == 0 {
+        RmState::PREPARED
+    } else {
+        RmState::ABORTED
+    }
+}
+
+fn chosen_value(kind: u8) -> u8
+    ensures { λ r. ⌜ r ≡ cond (eqb kind 0) 1 2 ⌝ }
+{
+    if kind == 0 { 1 } else { 2 }
+}
+
+// What an event of kinds 0, 1 and 2 comes to; for kind 2 the slot's message is taken by the reader, 8 where there is none. Kinds 0 and 1 are
+// one call, so that the compiler puts it in its place.
 fn evaluate_kind(plan: Plan, network: &[u8], kind: u8, who: u8, state: u8, slot: usize) -> Verdict
     ensures { λ r. ⌜ verdictOutcome r ≡ rmKind (viewBytes plan (now (network .entry))) kind who state slot ⌝ }
 {
-    if kind == 0 {
-        return choose(plan, network, who, state, RmState::PREPARED, 1);
-    }
-    if kind == 1 {
-        return choose(plan, network, who, state, RmState::ABORTED, 2);
+    if kind < 2 {
+        return choose(
+            plan,
+            network,
+            who,
+            state,
+            chosen_state(kind),
+            chosen_value(kind),
+        );
     }
     let answer = slots::message_at(plan, network, slot);
     let Read::Message(m) = answer else {
