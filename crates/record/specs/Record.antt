@@ -6,6 +6,7 @@
 --     onStates, onVotes, onInbox         a role's own step as a step of the record
 --     roleStep, settled, recordStep      the event call: the record and the event are judged, then the role of the event's kind takes its step
 -- Its laws are in Record/. Assumes nothing.
+pub mod Applied
 pub mod Laws
 pub mod Parts
 use Prim.Native.Nat.{ℕ, _+_, _*_}

@@ -2,16 +2,16 @@
 // crate `opening`, judging one the crate `judging`. Message bytes are below the roles' steps, and these below this crate, which sees only what
 // each role promises.
 //
-//     step      the event call: `judging::judge`, then `perform`, the step of the event's role, which judges the event but no table
+//     perform   the step of the event's role: it judges the event but no table
+//     step      the event call: `judging::judge`, then `perform`
 //
-// It is lent W (`states`), Q (`votes`), N (`network`) and I (`inboxes`), of any content and length.
+// Both are lent W (`states`), Q (`votes`), N (`network`) and I (`inboxes`), of any content and length.
 ghost use mathlib.Core.List.{List};
 ghost use mathlib.Core.Path.{_≡_};
 ghost use Prim.Native.Nat.{ℕ, _<_};
-ghost use Rattle.message.specs.Outcome.{accepted};
 ghost use Rattle.event.specs.Event.{whoOf};
-ghost use Rattle.leader.specs.Leader.{leaderJudged, leaderStep};
-ghost use Rattle.record.specs.Record.{tablesOf, inboxOf, recordJudged, recordStepOf, onInbox, recordStep};
+ghost use Rattle.record.specs.Record.{tablesOf, inboxOf, recordStepOf, onInbox, recordStep};
+ghost use Rattle.record.specs.Record.Applied.{leaderApplied, recordApplied};
 use change::Answer;
 use change::Judged;
 use message::Plan;
@@ -19,10 +19,9 @@ use message::Plan;
 // Kinds 4 to 8: the leader's step on its own inbox, a part of I, and N; whatever W and Q are.
 fn lead(plan: Plan, network: &mut [u8], inboxes: &mut [u8], event: &[u8]) -> Answer
     requires { ⌜ whoOf (now event) < plan .leaders ⌝ }
-    requires { ⌜ leaderJudged plan (inboxOf plan (now inboxes) (whoOf (now event))) (now network) ≡ accepted tt ⌝ }
     ensures { λ r. ⌜ ((w q : List ℕ) → recordStepOf r (tablesOf w q (now (network .exit)) (now (inboxes .exit))) ≡
         onInbox plan (whoOf (now (event .entry))) (tablesOf w q (now (network .entry)) (now (inboxes .entry)))
-        (leaderStep plan (inboxOf plan (now (inboxes .entry)) (whoOf (now (event .entry)))) (now (network .entry)) (now (event .entry)))) ⌝ }
+        (leaderApplied plan (inboxOf plan (now (inboxes .entry)) (whoOf (now (event .entry)))) (now (network .entry)) (now (event .entry)))) ⌝ }
 {
     let who = message::byte_at(event, 1) as usize;
     let size = inboxes.len() / plan.leaders as usize;
@@ -32,8 +31,9 @@ fn lead(plan: Plan, network: &mut [u8], inboxes: &mut [u8], event: &[u8]) -> Ans
     leader::perform(plan, inbox, network, event)
 }
 
-// The step of the event's role, on tables that were judged: 7 where it is no event, and then what the role refuses. A refusal changes no byte.
-fn perform(
+// The step of the event's role: 7 where it is no event, and then what the role refuses. A refusal changes no byte. It judges no table: on a
+// record that was judged it is the event call.
+pub fn perform(
     plan: Plan,
     states: &mut [u8],
     votes: &mut [u8],
@@ -41,9 +41,8 @@ fn perform(
     inboxes: &mut [u8],
     event: &[u8],
 ) -> Answer
-    requires { ⌜ recordJudged plan (tablesOf (now states) (now votes) (now network) (now inboxes)) ≡ accepted tt ⌝ }
     ensures { λ r. ⌜ recordStepOf r (tablesOf (now (states .exit)) (now (votes .exit)) (now (network .exit)) (now (inboxes .exit))) ≡
-        recordStep plan (tablesOf (now (states .entry)) (now (votes .entry)) (now (network .entry)) (now (inboxes .entry))) (now (event .entry)) ⌝ }
+        recordApplied plan (tablesOf (now (states .entry)) (now (votes .entry)) (now (network .entry)) (now (inboxes .entry))) (now (event .entry)) ⌝ }
 {
     if !event::is_event(plan, event) {
         return Answer::Refused(7);
