@@ -1,8 +1,8 @@
--- Looking for a form slot by slot, and block by block.
+-- Looking for a form slot by slot, and past many slots at once.
 --     lookFrom                                  what looking from a place on finds
 --     look-start, look-end                      from the start, and past the last slot
 --     Compared, look-free, look-at, look-next   what the slot at a place says of it, by its number
---     look-block                                past a block of which no slot is unused or the form
+--     look-passed                               past slots of which none is unused or the form
 -- Assumes nothing.
 use Prim.Native.Nat.{ℕ, zero, suc, _+_, _*_, _/_, _≤_, _<_}
 use mathlib.Core.Bool.{false}
@@ -21,10 +21,10 @@ use Rattle.slots.specs.Table.Laws.{length-slots}
 use Rattle.slots.specs.Table.Scan.{locateFrom, locate}
 use Rattle.slots.specs.Table.Scan.Laws.{sameBytes-false, locateFrom-free, locateFrom-at, locateFrom-next, locateFrom-end}
 use Rattle.slots.proofs.Eight.{eight, slot-eight}
-use Rattle.slots.specs.Table.Words.{wordSize, WordFrom}
+use Rattle.slots.specs.Table.Words.{WordFrom}
 use Rattle.search.specs.Words.{lowByte, EightFrom}
 use Rattle.search.specs.Words.Laws.{first-byte, eight-compared}
-use Rattle.search.specs.Blocks.{blockSlots, Passed}
+use Rattle.search.specs.Blocks.{Passed}
 
 -- what looking from the slot at `k` on finds
 pub lookFrom : List ℕ → List ℕ → ℕ → Place
@@ -83,23 +83,23 @@ module _ {t form : List ℕ} {k slot whole : ℕ} (c : Compared t form k slot wh
     pub look-next : (slot ≡ whole → ⊥) → lookFrom t form (k + 1) ≡ lookFrom t form k
     look-next d = look-other t k (c .inside) form in-use (sym same ∙ ne-eqb slot whole d)
 
-module _ (t form : List ℕ) (place head : ℕ) (of-head : WordFrom form 0 head) (p : Passed t place head) where
+module _ (t form : List ℕ) (place head n : ℕ) (of-head : WordFrom form 0 head) (p : Passed t place head n) where
   -- a slot that is the form begins with its first word
   begins : (k : ℕ) → k < length t / slotSize → slotAt t k ≡ form → WordFrom t (k * slotSize) head
   begins k h e = subst (λ (f : List ℕ). WordFrom f 0 head) (sym e ∙ slot-eight t k h) of-head
 
-  look-one : (j : ℕ) → j < blockSlots → lookFrom t form (place + j + 1) ≡ lookFrom t form (place + j)
+  look-one : (j : ℕ) → j < n → lookFrom t form (place + j + 1) ≡ lookFrom t form (place + j)
   look-one j l =
       let h : place + j < length t / slotSize = omega (arith, p .room) in
       let byte : place * slotSize + j * slotSize ≡ (place + j) * slotSize = omega arith in
-      let word : (place + j) * slotSize ≡ place * slotSize + 2 * j * wordSize = omega arith in
+      let slot = rw byte at (p .others .each j l) in
       look-other t (place + j) h form
-      (λ z. p .all .used j l (rw byte (sym (first t (place + j) h) ∙ z)))
-      (sameBytes-false _ _ (λ e. p .none .differs (2 * j) (omega arith) (rw word at (begins (place + j) h e))))
+      (λ z. slot .used (sym (first t (place + j) h) ∙ z))
+      (sameBytes-false _ _ (λ e. slot .differs (begins (place + j) h e)))
 
-  look-slots : (j : ℕ) → j ≤ blockSlots → lookFrom t form (place + j) ≡ lookFrom t form place
+  look-slots : (j : ℕ) → j ≤ n → lookFrom t form (place + j) ≡ lookFrom t form place
   look-slots zero l = rw (add-zero place)
   look-slots (suc j) l = rw (add-suc place j, ← add-one (place + j)) (look-one j l ∙ look-slots j (omega arith))
 
-  pub look-block : lookFrom t form (place + blockSlots) ≡ lookFrom t form place
-  look-block = look-slots blockSlots (omega arith)
+  pub look-passed : lookFrom t form (place + n) ≡ lookFrom t form place
+  look-passed = look-slots n (omega arith)

@@ -1,32 +1,24 @@
--- Blocks of slots that are passed at once.
---     blockSlots, blockSize, blockWords     the slots of a block, its bytes and its words
---     NoneBegins                            none of so many words is `head`
---     Passed                                nor is a slot of a block unused
+-- Slots that are passed at once.
+--     OtherSlot, OtherSlots     a slot, or each of so many, is in use and does not begin with the word `head`
+--     Passed                    so many slots from a place on are there and are such
 -- Assumes nothing.
 use Prim.Native.Nat.{ℕ, _+_, _*_, _/_, _≤_, _<_}
 use mathlib.Core.List.{List}
-use lib.ListN.{length}
+use mathlib.Core.Path.{_≡_}
+use lib.ListN.{length, getD}
 use Rattle.slots.specs.Table.{slotSize}
-use Rattle.slots.specs.Table.Words.{wordSize, WordFrom, AllUsed}
+use Rattle.slots.specs.Table.Words.{WordFrom}
 
--- the slots of a block
-abbrev pub blockSlots : ℕ
-blockSlots = 32
+-- the slot whose bytes begin at `at` is in use and does not begin with the word `head`
+pub record OtherSlot (t : List ℕ) (at head : ℕ) : Type 0 where
+  pub used : getD t at 0 ≡ 0 → ⊥
+  pub differs : WordFrom t at head → ⊥
 
--- its bytes
-abbrev pub blockSize : ℕ
-blockSize = blockSlots * slotSize
+-- such are the first n slots from `at` on
+pub record OtherSlots (t : List ℕ) (at head n : ℕ) : Type 0 where
+  pub each : (k : ℕ) → k < n → OtherSlot t (at + k * slotSize) head
 
--- its words
-abbrev pub blockWords : ℕ
-blockWords = blockSize / wordSize
-
--- none of the first n words from `at` on is `head`
-pub record NoneBegins (t : List ℕ) (at head n : ℕ) : Type 0 where
-  pub differs : (k : ℕ) → k < n → WordFrom t (at + k * wordSize) head → ⊥
-
--- the slots of a block from `place` on are there and in use, and none begins with the word `head`
-pub record Passed (t : List ℕ) (place head : ℕ) : Type 0 where
-  pub room : place + blockSlots ≤ length t / slotSize
-  pub all : AllUsed t (place * slotSize) blockSlots
-  pub none : NoneBegins t (place * slotSize) head blockWords
+-- n slots from `place` on are there and are such
+pub record Passed (t : List ℕ) (place head n : ℕ) : Type 0 where
+  pub room : place + n ≤ length t / slotSize
+  pub others : OtherSlots t (place * slotSize) head n

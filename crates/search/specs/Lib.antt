@@ -1,5 +1,5 @@
 -- How the search looks at bytes.
 --     Words     bytes as numbers
---     Blocks    blocks of slots that are passed at once
+--     Blocks    slots that are passed at once
 pub mod Words
 pub mod Blocks

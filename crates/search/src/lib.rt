@@ -2,9 +2,9 @@
 //
 //     word_from               four bytes as one number, a word
 //     pair, eight_from        two words as one number, so that a slot is compared in one step
-//     same, join, hits        whether one word of a block of slots is the form's first, without a branch
-//     meet, shared            the bits that the maps of a block share, without a branch
-//     is_passed               a block of which no slot is unused or the form
+//     other, meet, kept       the bits that the maps of so many slots share, none where a slot begins as the form, without a branch
+//     is_passed               so many slots of which none is unused or the form
+//     slots_passed            how many slots are passed from a place on
 //     locate_form             the first slot with these eight bytes, or the first unused one
 //     locate_message          the same of a message
 //     send_message            the slot where a message stands or goes, decided before anything is stored
@@ -13,15 +13,15 @@
 // a `requires`, and none looks past its table.
 ghost use mathlib.Core.Bool.{true};
 ghost use mathlib.Core.Path.{_≡_};
-ghost use Prim.Native.Nat.{_+_, _/_, _≤_};
+ghost use Prim.Native.Nat.{_+_, _*_, _/_, _≤_};
 ghost use lib.ListN.{length};
 ghost use Rattle.message.specs.Form.{slotOf};
 ghost use Rattle.slots.specs.Table.{slotSize};
 ghost use Rattle.slots.specs.Table.Scan.{locate};
 ghost use Rattle.slots.specs.View.Bytes.{viewBytes};
-ghost use Rattle.slots.specs.Table.Words.{wordSize, WordFrom, AllUsed};
+ghost use Rattle.slots.specs.Table.Words.{wordSize, WordFrom};
 ghost use Rattle.search.specs.Words.{lowByte, Pair, EightFrom};
-ghost use Rattle.search.specs.Blocks.{blockSlots, blockSize, blockWords, NoneBegins, Passed};
+ghost use Rattle.search.specs.Blocks.{OtherSlots, Passed};
 use message::Message;
 use message::Plan;
 use message::SLOT_SIZE;
@@ -32,14 +32,10 @@ use slots::Store;
 // The bytes of a word.
 const WORD_SIZE: usize = 4;
 
-// So many slots are looked at together without a branch: a block. Its bytes, its words, and where its last slot begins.
-const BLOCK_SLOTS: usize = 32;
+// So many slots are looked at together without a branch: a block, or else a row.
+const BLOCK_SLOTS: usize = 64;
 
-const BLOCK_SIZE: usize = BLOCK_SLOTS * SLOT_SIZE;
-
-const BLOCK_WORDS: usize = BLOCK_SIZE / WORD_SIZE;
-
-const LAST_SLOT: usize = BLOCK_SIZE - SLOT_SIZE;
+const ROW_SLOTS: usize = 8;
 
 // The lowest byte of a number is what it leaves when divided by this.
 const BYTE: u64 = 0x100;
@@ -67,81 +63,73 @@ fn eight_from(bytes: &[u8], at: usize) -> u64
     pair(word_from(bytes, at), word_from(bytes, at + WORD_SIZE))
 }
 
-// Not zero where the two are the same.
-fn same(a: u32, b: u32) -> u32
-    ensures { λ r. ⌜ (r ≡ 0 → a ≡ b → ⊥) ⌝ }
+// The word, or zero where it is `head`.
+fn other(word: u32, head: u32) -> u32
+    ensures { λ r. ⌜ (lowByte word ≡ 0 → lowByte r ≡ 0) × (word ≡ head → lowByte r ≡ 0) ⌝ }
 {
-    if a == b { 1 } else { 0 }
-}
-
-// Zero only where both are.
-fn join(a: u32, b: u32) -> u32
-    ensures { λ r. ⌜ (r ≡ 0 → (a ≡ 0) × (b ≡ 0)) ⌝ }
-{
-    a | b
+    if word == head { 0 } else { word }
 }
 
 // Its lowest byte is zero where one of theirs is.
-fn meet(a: u64, b: u64) -> u64
+fn meet(a: u32, b: u32) -> u32
     ensures { λ r. ⌜ (lowByte a ≡ 0 → lowByte r ≡ 0) × (lowByte b ≡ 0 → lowByte r ≡ 0) ⌝ }
 {
     a & b
 }
 
-// Zero only where no slot of a block begins with `head`. Every word is looked at, the second of a slot too, since that is done for many
-// words in one step.
-fn hits(table: &[u8], at: usize, head: u32) -> u32
-    requires { ⌜ at + blockSize ≤ length (now table) ⌝ }
-    ensures { λ r. ⌜ (r ≡ 0 → NoneBegins (now (table .entry)) at head blockWords) ⌝ }
+// Its lowest byte is zero where one of so many slots is unused or begins with `head`. Where they hold other messages it is not: all maps share
+// the order number's bit. No branch depends on a slot, so that many are looked at in one step.
+fn kept(table: &[u8], at: usize, slots: usize, head: u32) -> u32
+    requires { ⌜ at + slots * slotSize ≤ length (now table) ⌝ }
+    ensures { λ r. ⌜ ((lowByte r ≡ 0 → ⊥) → OtherSlots (now (table .entry)) at head slots) ⌝ }
 {
-    let mut hit: u32 = 0;
+    let mut bits: u32 = 0xFFFF_FFFF;
     let mut i = 0;
-    while i < BLOCK_WORDS {
-        let k = at + i * WORD_SIZE;
-        hit = join(hit, same(word_from(table, k), head));
-        i += 1;
-    }
-    hit
-}
-
-// Its lowest byte is zero where a slot of a block is unused. Where all hold messages it is not: all maps share the order number's bit.
-fn shared(table: &[u8], at: usize) -> u64
-    requires { ⌜ at + blockSize ≤ length (now table) ⌝ }
-    ensures { λ r. ⌜ ((lowByte r ≡ 0 → ⊥) → AllUsed (now (table .entry)) at blockSlots) ⌝ }
-{
-    let mut bits: u64 = 0xFFFF_FFFF_FFFF_FFFF;
-    let mut i = 0;
-    while i < BLOCK_SLOTS {
+    while i < slots {
         let k = at + i * SLOT_SIZE;
-        bits = meet(bits, eight_from(table, k));
+        bits = meet(bits, other(word_from(table, k), head));
         i += 1;
     }
     bits
 }
 
-// Whether a block begins at a place and can be passed: true only where all its slots are in use and none begins with `head`. Its last slot
-// is tested first: in a judged table it is unused where any of them is.
-fn is_passed(table: &[u8], place: usize, head: u32) -> bool
-    requires { ⌜ place ≤ length (now table) / slotSize ⌝ }
-    ensures { λ r. ⌜ (r ≡ true → Passed (now (table .entry)) place head) ⌝ }
+// Whether so many slots begin at a place, a multiple of their number, and can be passed: true only where all are in use and none begins with
+// `head`. The last of them is tested first: in a judged table it is unused where any of them is.
+fn is_passed(table: &[u8], place: usize, slots: usize, head: u32) -> bool
+    requires { ⌜ (place ≤ length (now table) / slotSize) × (1 ≤ slots) ⌝ }
+    ensures { λ r. ⌜ (r ≡ true → Passed (now (table .entry)) place head slots) ⌝ }
 {
+    if place % slots != 0 {
+        return false;
+    }
+    if table.len() / SLOT_SIZE - place < slots {
+        return false;
+    }
     let at = place * SLOT_SIZE;
-    if place % BLOCK_SLOTS != 0 {
+    if table[at + (slots - 1) * SLOT_SIZE] == 0 {
         return false;
     }
-    if table.len() - at < BLOCK_SIZE {
-        return false;
-    }
-    if table[at + LAST_SLOT] == 0 {
-        return false;
-    }
-    if shared(table, at) % BYTE == 0 {
-        return false;
-    }
-    hits(table, at, head) == 0
+    kept(table, at, slots, head) as u64 % BYTE != 0
 }
 
-// The first slot with these eight bytes, else the first unused one, else none: past whole blocks where that can be, else slot by slot.
+// How many slots are passed from a place on: a block, a row or none.
+fn slots_passed(table: &[u8], place: usize, head: u32) -> usize
+    requires { ⌜ place ≤ length (now table) / slotSize ⌝ }
+    ensures { λ r. ⌜ Passed (now (table .entry)) place head r ⌝ }
+{
+    if place % ROW_SLOTS != 0 {
+        return 0;
+    }
+    if is_passed(table, place, BLOCK_SLOTS, head) {
+        return BLOCK_SLOTS;
+    }
+    if is_passed(table, place, ROW_SLOTS, head) {
+        return ROW_SLOTS;
+    }
+    0
+}
+
+// The first slot with these eight bytes, else the first unused one, else none: past many slots at once where that can be, else slot by slot.
 fn locate_form(table: &[u8], form: &[u8]) -> Place
     requires { ⌜ length (now form) ≡ slotSize ⌝ }
     ensures { λ r. ⌜ r ≡ locate (now (table .entry)) (now (form .entry)) ⌝ }
@@ -151,8 +139,9 @@ fn locate_form(table: &[u8], form: &[u8]) -> Place
     let count = table.len() / SLOT_SIZE;
     let mut place = 0;
     while place < count {
-        if is_passed(table, place, head) {
-            place += BLOCK_SLOTS;
+        let passed = slots_passed(table, place, head);
+        if passed != 0 {
+            place += passed;
             continue;
         }
         let slot = eight_from(table, place * SLOT_SIZE);

@@ -5,7 +5,7 @@ use native.Mathlib.Omega.{arith}
 use borrow.Author.Needs.{needs}
 use denote.Ref.{now}
 use Rattle.slots.specs.Table.Scan.{locate}
-use Rattle.search.proofs.Look.{lookFrom, look-start, look-end, Compared, look-free, look-at, look-next, look-block}
+use Rattle.search.proofs.Look.{lookFrom, look-start, look-end, Compared, look-free, look-at, look-next, look-passed}
 use Rattle.search.proofs.locate_form.Statement.{statement}
 use Rattle.search.proofs.locate_form.Tie as tie
 
@@ -47,21 +47,22 @@ eight-from-requires c κs = search needs
 loop-holds : tie.Need-loop-holds Inv-loop μ-loop
 loop-holds c = (search needs, look-start _ _)
 
-is-passed-requires : tie.Need-is-passed-requires Inv-loop μ-loop
-is-passed-requires c κs = search needs
+slots-passed-requires : tie.Need-slots-passed-requires Inv-loop μ-loop
+slots-passed-requires c κs = search needs
 
 add-place : tie.Need-add-place Inv-loop μ-loop
 add-place c = search needs
 
 loop-less : tie.Need-loop-less Inv-loop μ-loop
-loop-less c = let block = c .before .is-passed .ensures (c .if1 .taken) in omega (arith, block .room)
+loop-less c = let at-passed = c .before in omega (arith, at-passed .slots-passed .ensures .room, c .if1 .taken)
 
 loop-again : tie.Need-loop-again Inv-loop μ-loop
 loop-again c =
-    let at-loop = c .before .before .before in
+    let at-passed = c .before in
+    let at-loop = at-passed .before .before in
     let at-head = at-loop .before .before in
-    let block = c .before .is-passed .ensures (c .if1 .taken) in
-    (omega (arith, block .room), look-block _ _ _ _ (at-head .word-from .ensures) block ∙ at-loop .loop .inv .1)
+    let slots = at-passed .slots-passed .ensures in
+    (omega (arith, slots .room), look-passed _ _ _ _ _ (at-head .word-from .ensures) slots ∙ at-loop .loop .inv .1)
 
 mul-eight-from : tie.Need-mul-eight-from Inv-loop μ-loop
 mul-eight-from c = search needs
@@ -102,7 +103,7 @@ locate-form-spec =
     word-from-requires
     eight-from-requires
     loop-holds
-    is-passed-requires
+    slots-passed-requires
     add-place
     loop-less
     loop-again
