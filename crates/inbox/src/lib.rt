@@ -7,16 +7,16 @@
 ghost use mathlib.Core.Bool.{true};
 ghost use mathlib.Core.List.{[]};
 ghost use mathlib.Core.Path.{_≡_};
-ghost use Prim.Native.Nat.{_+_, _/_, _≤_};
+ghost use Prim.Native.Nat.{_+_, _/_, _%_, _≤_, _<_};
 ghost use lib.ListN.{length};
 ghost use Rattle.slots.specs.Table.{slotSize};
 ghost use Rattle.slots.specs.Table.Scan.{peekTable};
 ghost use Rattle.slots.specs.View.Bytes.{leadingMessages};
-ghost use Rattle.slots.specs.Table.Words.{wordSize, WordFrom, AllUsed};
+ghost use Rattle.slots.specs.Table.Words.{wordSize, WordFrom};
 ghost use Rattle.inbox.specs.Inbox.{higher, reportsOf};
 ghost use Rattle.inbox.specs.Inbox.Slots.{messageAt};
 ghost use Rattle.inbox.specs.Inbox.Reports.{reportStep, Gathers};
-ghost use Rattle.inbox.specs.Inbox.Blocks.{blockSlots, blockSize, blockWords, part1b, part2a, NoneSought, Passed};
+ghost use Rattle.inbox.specs.Inbox.Blocks.{blockSlots, Passed, AllPassed};
 use message::ACC;
 use message::BAL_1B;
 use message::BAL_2A;
@@ -109,21 +109,23 @@ fn report_step(inbox: &[u8], at: usize, instance: u8, ballot: u8, seen: Gathered
     seen
 }
 
-// The bytes of a word.
-const WORD_SIZE: usize = 4;
+// So many slots are looked at together without a branch: a block. The compiler takes 32 of them in vector steps and the last one by itself,
+// since it does not load past it.
+const BLOCK_SLOTS: usize = 33;
 
-// So many slots are looked at together without a branch: a block. Its bytes and its words.
-const BLOCK_SLOTS: usize = 8;
+const LAST_SLOT: usize = BLOCK_SLOTS - 1;
 
-const BLOCK_SIZE: usize = BLOCK_SLOTS * SLOT_SIZE;
+// A map has this bit where it is one of the two of a 1b.
+const BIT_1B: u8 = 0x04;
 
-const BLOCK_WORDS: usize = BLOCK_SIZE / WORD_SIZE;
-
-// The bytes of a slot's first word where a 1b has its instance and its ballot.
-const INS_AND_MBAL: u32 = 0xFF00_FF00;
+// The bits of a slot's first word that tell a 1b of an instance and ballot: that bit, and where a 1b has ins and mbal.
+const PARTS_1B: u32 = 0xFF00_FF04;
 
 // A word divided by this leaves its first three bytes: of a 2a map, instance and ballot.
 const THREE_BYTES: u32 = 0x100_0000;
+
+// The lowest byte of a number is what it leaves when divided by this.
+const BYTE: u32 = 0x100;
 
 // Four bytes from an index on as one number.
 fn word_from(bytes: &[u8], at: usize) -> u32
@@ -133,71 +135,72 @@ fn word_from(bytes: &[u8], at: usize) -> u32
     slots::word(bytes[at], bytes[at + 1], bytes[at + 2], bytes[at + 3])
 }
 
-// Not zero where a slot with this first word may be the 1b, or is the 2a, of which these are the parts.
-fn sought(word: u32, of_1b: u32, of_2a: u32) -> u32
-    ensures { λ r. ⌜ (r ≡ 0 → (part1b word ≡ «of_1b» → ⊥) × (part2a word ≡ «of_2a» → ⊥)) ⌝ }
+// The first word of a slot, and 0 where it is a 1b or a 2a of the instance and ballot. So its lowest byte is 0 too where the slot is unused.
+fn unsought(inbox: &[u8], place: usize, instance: u8, ballot: u8) -> u32
+    requires { ⌜ place < length (now inbox) / slotSize ⌝ }
+    ensures { λ r. ⌜ ((r % 0x100 ≡ 0 → ⊥) → Passed instance ballot (now (inbox .entry)) place) ⌝ }
 {
-    if word & INS_AND_MBAL == of_1b {
-        return 1;
+    let word = word_from(inbox, place * SLOT_SIZE);
+    if word & PARTS_1B == slots::word(BIT_1B, instance, 0, ballot) {
+        return 0;
     }
-    if word % THREE_BYTES == of_2a {
-        return 1;
+    if word % THREE_BYTES == slots::word(MAP_2A, instance, ballot, 0) {
+        return 0;
     }
-    0
+    word
 }
 
-// Zero only where no slot of a block may be a 1b or is a 2a of the instance and ballot. Every word is looked at, the second of a slot too,
-// since that is done for many words in one step.
-fn hits(inbox: &[u8], at: usize, instance: u8, ballot: u8) -> u32
-    requires { ⌜ at + blockSize ≤ length (now inbox) ⌝ }
-    ensures { λ r. ⌜ (r ≡ 0 → NoneSought instance ballot (now (inbox .entry)) at blockWords) ⌝ }
+// The bits that these words of a block share. Where all slots are in use and none is sought its lowest byte is not 0: all maps share the
+// order number's bit.
+fn shared(inbox: &[u8], place: usize, instance: u8, ballot: u8) -> u32
+    requires { ⌜ place + blockSlots ≤ length (now inbox) / slotSize ⌝ }
+    ensures { λ r. ⌜ ((r % 0x100 ≡ 0 → ⊥) → AllPassed instance ballot (now (inbox .entry)) place (place + blockSlots)) ⌝ }
 {
-    let of_1b = slots::word(0, instance, 0, ballot);
-    let of_2a = slots::word(MAP_2A, instance, ballot, 0);
-    let mut hit: u32 = 0;
-    let mut i = 0;
-    while i < BLOCK_WORDS {
-        let next = sought(word_from(inbox, at + i * WORD_SIZE), of_1b, of_2a);
-        hit = hit | next;
-        i += 1;
-    }
-    hit
-}
-
-// Zero where a slot of a block is unused. Where all hold messages it is not: all maps share the order number's bit.
-fn shared(inbox: &[u8], at: usize) -> u8
-    requires { ⌜ at + blockSize ≤ length (now inbox) ⌝ }
-    ensures { λ r. ⌜ ((r ≡ 0 → ⊥) → AllUsed (now (inbox .entry)) at blockSlots) ⌝ }
-{
-    let mut bits = 255;
+    let mut bits: u32 = 0xFFFF_FFFF;
     let mut i = 0;
     while i < BLOCK_SLOTS {
-        bits = bits & inbox[at + i * SLOT_SIZE];
+        bits = bits & unsought(inbox, place + i, instance, ballot);
         i += 1;
     }
     bits
 }
 
 // Whether a block begins at a place and can be passed: true only where all its slots are in use, and none is a 1b or a 2a of the instance
-// and ballot.
+// and ballot. Its last slot is tested first: in a judged table it is unused where any of them is.
 fn is_passed(inbox: &[u8], place: usize, instance: u8, ballot: u8) -> bool
     requires { ⌜ place ≤ length (now inbox) / slotSize ⌝ }
-    ensures { λ r. ⌜ (r ≡ true → Passed instance ballot (now (inbox .entry)) place) ⌝ }
+    ensures { λ r. ⌜ (r ≡ true → (place + blockSlots ≤ length (now (inbox .entry)) / slotSize)
+        × AllPassed instance ballot (now (inbox .entry)) place (place + blockSlots)) ⌝ }
 {
-    let at = place * SLOT_SIZE;
-    if place % BLOCK_SLOTS != 0 {
+    if inbox.len() / SLOT_SIZE - place < BLOCK_SLOTS {
         return false;
     }
-    if inbox.len() - at < BLOCK_SIZE {
+    if inbox[(place + LAST_SLOT) * SLOT_SIZE] == 0 {
         return false;
     }
-    if shared(inbox, at) == 0 {
-        return false;
-    }
-    hits(inbox, at, instance, ballot) == 0
+    shared(inbox, place, instance, ballot) % BYTE != 0
 }
 
-// Past whole blocks where that can be, else slot by slot.
+// The first place from one on that cannot be passed: past whole blocks, then slot by slot.
+fn passed_to(inbox: &[u8], from: usize, instance: u8, ballot: u8) -> usize
+    requires { ⌜ from ≤ length (now inbox) / slotSize ⌝ }
+    ensures { λ r. ⌜ (from ≤ r) × (r ≤ length (now (inbox .entry)) / slotSize) × AllPassed instance ballot (now (inbox .entry)) from r ⌝ }
+{
+    let count = inbox.len() / SLOT_SIZE;
+    let mut place = from;
+    while is_passed(inbox, place, instance, ballot) {
+        place += BLOCK_SLOTS;
+    }
+    while place < count {
+        if unsought(inbox, place, instance, ballot) % BYTE == 0 {
+            return place;
+        }
+        place += 1;
+    }
+    place
+}
+
+// From one slot that cannot be passed to the next.
 fn gather(inbox: &[u8], instance: u8, ballot: u8) -> Counted
     ensures { λ r. ⌜ Gathers instance ballot (leadingMessages (peekTable (now (inbox .entry)))) (r .seen) (r .count) [] ⌝ }
 {
@@ -207,20 +210,20 @@ fn gather(inbox: &[u8], instance: u8, ballot: u8) -> Counted
         mask: 0,
         vote: Vote::None,
     };
-    let mut place = 0;
-    while place < count {
-        if is_passed(inbox, place, instance, ballot) {
-            place += BLOCK_SLOTS;
-            continue;
+    let mut from = 0;
+    while from < count {
+        let place = passed_to(inbox, from, instance, ballot);
+        if place == count {
+            return Counted { seen, count: place };
         }
         let at = place * SLOT_SIZE;
         if inbox[at] == 0 {
             return Counted { seen, count: place };
         }
         seen = report_step(inbox, at, instance, ballot, seen);
-        place += 1;
+        from = place + 1;
     }
-    Counted { seen, count: place }
+    Counted { seen, count: from }
 }
 
 // What Phase2a asks of the inbox, in one pass.

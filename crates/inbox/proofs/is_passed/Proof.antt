@@ -2,18 +2,24 @@
 use mathlib.Core.Bool.{false≢true}
 use native.Mathlib.Omega.{arith}
 use borrow.Author.Needs.{needs}
-use borrow.Author.Tests.{eqb-true}
+use borrow.Author.Tests.{eqb-false, not-true}
 use Rattle.inbox.proofs.is_passed.Statement.{statement}
 use Rattle.inbox.proofs.is_passed.Tie as tie
 
-mul-at : tie.Need-mul-at
-mul-at c = search needs
+sub-if1 : tie.Need-sub-if1
+sub-if1 c = search needs
 
 returns : tie.Need-returns
 returns c e = absurd (false≢true e)
 
-sub-if2 : tie.Need-sub-if2
-sub-if2 c = search needs
+add-if2 : tie.Need-add-if2
+add-if2 c = search needs
+
+mul-if2 : tie.Need-mul-if2
+mul-if2 c = search needs
+
+shared-slice-read-if2 : tie.Need-shared-slice-read-if2
+shared-slice-read-if2 c = search needs
 
 returns-2 : tie.Need-returns-2
 returns-2 c e = absurd (false≢true e)
@@ -22,19 +28,8 @@ shared-requires : tie.Need-shared-requires
 shared-requires c κs = search needs
 
 returns-3 : tie.Need-returns-3
-returns-3 c e = absurd (false≢true e)
-
-hits-requires : tie.Need-hits-requires
-hits-requires c κs = search needs
-
-returns-4 : tie.Need-returns-4
-returns-4 c e =
-    let at-shared = c .before in
-    record {
-      room = omega arith;
-      all = at-shared .before .shared .ensures (at-shared .if3 .left);
-      none = c .hits .ensures (eqb-true _ _ e);
-    }
+returns-3 c e = (omega arith, c .shared .ensures (eqb-false _ _ (not-true _ e)))
 
 pub is-passed-spec : {M : Type 1} → statement M
-is-passed-spec = tie.close (tie.spec mul-at returns sub-if2 returns-2 shared-requires returns-3 hits-requires returns-4)
+is-passed-spec =
+    tie.close (tie.spec sub-if1 returns add-if2 mul-if2 shared-slice-read-if2 returns-2 shared-requires returns-3)
