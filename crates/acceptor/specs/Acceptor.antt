@@ -7,6 +7,7 @@
 --     acceptorStep              the whole call
 -- Row 4 itself is `areVotes` of the crate `votes`. Laws are in Acceptor/Laws.antt, and what is judged in Acceptor/Sound.antt. Assumes nothing.
 pub mod Laws
+pub mod Updates
 pub mod Sound
 use Prim.Native.Nat.{ℕ, _+_, _*_}
 use mathlib.Core.Bool.{not, cond}

@@ -126,7 +126,7 @@ fn receive(plan: Plan, votes: &[u8], network: &[u8], acc: u8, m: Message) -> Ver
 
 // What the event comes to: 1 for the plan, 7 where it is no event of an acceptor, then 8, 9, 12 or 13. The slot's message is taken by the
 // reader. It judges no table: in one that nobody judged the reader may refuse the slot with 15, 17 or 18.
-fn evaluate(plan: Plan, votes: &[u8], network: &[u8], event: &[u8]) -> Verdict
+pub fn evaluate(plan: Plan, votes: &[u8], network: &[u8], event: &[u8]) -> Verdict
     ensures { λ r. ⌜ verdictOutcome r ≡ acceptorVerdict plan (now (votes .entry)) (viewBytes plan (now (network .entry))) (now (event .entry)) ⌝ }
 {
     if !message::is_plan(plan) {

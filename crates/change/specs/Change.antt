@@ -5,6 +5,7 @@
 --     Step, stepOf, refusal, applied   the answer and both tables after a verdict; a refusal changes no byte
 -- Its laws are in Change/Laws.antt. Assumes nothing.
 pub mod Laws
+pub mod Updates
 use Prim.Native.Nat.{ℕ, _+_}
 use mathlib.Core.List.{List}
 use lib.ListN.{set}

@@ -76,7 +76,7 @@ pub enum Verdict {
 }
 
 // The refusal's number in a verdict, 0 where it is an acceptance.
-fn verdict_number(verdict: Verdict) -> u8
+pub fn verdict_number(verdict: Verdict) -> u8
     ensures { λ r. ⌜ r ≡ numberOf (verdictOutcome verdict) ⌝ }
 {
     match verdict {
@@ -85,7 +85,7 @@ fn verdict_number(verdict: Verdict) -> u8
     }
 }
 
-fn set_vote(votes: &mut [u8], at: usize, mbal: u8, bal: u8, val: u8)
+pub fn set_vote(votes: &mut [u8], at: usize, mbal: u8, bal: u8, val: u8)
     ensures { λ _. ⌜ now (votes .exit) ≡ set (set (set (now (votes .entry)) at mbal) (at + 1) bal) (at + 2) val ⌝ }
 {
     if votes.len() <= at {

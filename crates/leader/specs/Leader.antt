@@ -9,6 +9,7 @@
 --     leaderStep                    the whole call
 -- What is judged is in Leader/Sound.antt. Assumes nothing.
 pub mod Sound
+pub mod Updates
 use Prim.Native.Nat.{ℕ}
 use mathlib.Core.Bool.{Bool, not, cond}
 use mathlib.Core.List.{List}

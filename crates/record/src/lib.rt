@@ -10,25 +10,109 @@ ghost use mathlib.Core.List.{List};
 ghost use mathlib.Core.Path.{_≡_};
 ghost use Prim.Native.Nat.{ℕ, _<_};
 ghost use Rattle.event.specs.Event.{whoOf};
-ghost use Rattle.record.specs.Record.{tablesOf, inboxOf, recordStepOf, onInbox, recordStep};
-ghost use Rattle.record.specs.Record.Applied.{leaderApplied, recordApplied};
+ghost use Rattle.change.specs.Change.{verdictOutcome};
+ghost use Rattle.record.specs.Record.{tablesOf, recordStepOf, recordStep};
+ghost use Rattle.record.specs.Record.Applied.{leaderOn, recordVerdict, keptInbox, changed, appliedTo, recordApplied};
 use change::Answer;
 use change::Judged;
+use change::Update;
+use change::Verdict;
 use message::Plan;
+use slots::Store;
 
-// Kinds 4 to 8: the leader's step on its own inbox, a part of I, and N; whatever W and Q are.
-fn lead(plan: Plan, network: &mut [u8], inboxes: &mut [u8], event: &[u8]) -> Answer
+// Kinds 4 to 8: what the event comes to on the leader's own inbox, a part of I, and N.
+fn evaluate_leader(plan: Plan, network: &[u8], inboxes: &[u8], event: &[u8]) -> Verdict
     requires { ⌜ whoOf (now event) < plan .leaders ⌝ }
-    ensures { λ r. ⌜ ((w q : List ℕ) → recordStepOf r (tablesOf w q (now (network .exit)) (now (inboxes .exit))) ≡
-        onInbox plan (whoOf (now (event .entry))) (tablesOf w q (now (network .entry)) (now (inboxes .entry)))
-        (leaderApplied plan (inboxOf plan (now (inboxes .entry)) (whoOf (now (event .entry)))) (now (network .entry)) (now (event .entry)))) ⌝ }
+    ensures { λ r. ⌜ verdictOutcome r ≡ leaderOn plan (now (inboxes .entry)) (now (network .entry)) (now (event .entry)) ⌝ }
 {
     let who = message::byte_at(event, 1) as usize;
     let size = inboxes.len() / plan.leaders as usize;
     let from = who * size;
     let to = from + size;
+    let inbox = &inboxes[from..to];
+    leader::evaluate(plan, inbox, network, event)
+}
+
+// What the event comes to: 7 where it is no event, and then what the role of its kind makes of it. It judges no table.
+fn evaluate(
+    plan: Plan,
+    states: &[u8],
+    votes: &[u8],
+    network: &[u8],
+    inboxes: &[u8],
+    event: &[u8],
+) -> Verdict
+    ensures { λ r. ⌜ verdictOutcome r ≡
+        recordVerdict plan (tablesOf (now (states .entry)) (now (votes .entry)) (now (network .entry)) (now (inboxes .entry))) (now (event .entry)) ⌝ }
+{
+    if !event::is_event(plan, event) {
+        return Verdict::Refused(7);
+    }
+    let kind = message::byte_at(event, 0);
+    if kind <= 2 {
+        return rm::evaluate(plan, states, network, event);
+    }
+    if kind == 3 {
+        return acceptor::evaluate(plan, votes, network, event);
+    }
+    evaluate_leader(plan, network, inboxes, event)
+}
+
+// Stores in a leader's inbox, a part of I; there is none past the last leader.
+fn store_in_inbox(plan: Plan, inboxes: &mut [u8], leader: u8, store: Store)
+    ensures { λ _. ⌜ now (inboxes .exit) ≡ keptInbox plan (now (inboxes .entry)) leader store ⌝ }
+{
+    if plan.leaders <= leader {
+        return;
+    }
+    let size = inboxes.len() / plan.leaders as usize;
+    let from = leader as usize * size;
+    let to = from + size;
     let inbox = &mut inboxes[from..to];
-    leader::perform(plan, inbox, network, event)
+    slots::apply_store(plan, inbox, store);
+}
+
+// Changes the table that the update is for: W, Q or the leader's inbox.
+fn update_table(
+    plan: Plan,
+    states: &mut [u8],
+    votes: &mut [u8],
+    inboxes: &mut [u8],
+    leader: u8,
+    update: Update,
+)
+    ensures { λ _. ⌜ ((n : List ℕ) → tablesOf (now (states .exit)) (now (votes .exit)) n (now (inboxes .exit)) ≡
+        changed plan leader (tablesOf (now (states .entry)) (now (votes .entry)) n (now (inboxes .entry))) update n) ⌝ }
+{
+    match update {
+        Update::State { who, state } => slots::set_byte(states, who, state),
+        Update::Vote { at, mbal, bal, val } => change::set_vote(votes, at, mbal, bal, val),
+        Update::Inbox(store) => store_in_inbox(plan, inboxes, leader, store),
+    }
+}
+
+// Stores what a verdict accepts and answers; a refusal changes no byte. One call for all roles, so that the compiler puts it in its place.
+fn apply(
+    plan: Plan,
+    states: &mut [u8],
+    votes: &mut [u8],
+    network: &mut [u8],
+    inboxes: &mut [u8],
+    leader: u8,
+    verdict: Verdict,
+) -> Answer
+    ensures { λ r. ⌜ recordStepOf r (tablesOf (now (states .exit)) (now (votes .exit)) (now (network .exit)) (now (inboxes .exit))) ≡
+        appliedTo plan leader (tablesOf (now (states .entry)) (now (votes .entry)) (now (network .entry)) (now (inboxes .entry))) (verdictOutcome verdict) ⌝ }
+{
+    let Verdict::Accepted(change) = verdict else {
+        return Answer::Refused(change::verdict_number(verdict));
+    };
+    let update = change.table;
+    let store = change.network;
+    let sent = change.sent;
+    update_table(plan, states, votes, inboxes, leader, update);
+    slots::apply_store(plan, network, store);
+    Answer::Accepted(sent)
 }
 
 // The step of the event's role: 7 where it is no event, and then what the role refuses. A refusal changes no byte. It judges no table: on a
@@ -44,17 +128,9 @@ pub fn perform(
     ensures { λ r. ⌜ recordStepOf r (tablesOf (now (states .exit)) (now (votes .exit)) (now (network .exit)) (now (inboxes .exit))) ≡
         recordApplied plan (tablesOf (now (states .entry)) (now (votes .entry)) (now (network .entry)) (now (inboxes .entry))) (now (event .entry)) ⌝ }
 {
-    if !event::is_event(plan, event) {
-        return Answer::Refused(7);
-    }
-    let kind = message::byte_at(event, 0);
-    if kind <= 2 {
-        return rm::perform(plan, states, network, event);
-    }
-    if kind == 3 {
-        return acceptor::perform(plan, votes, network, event);
-    }
-    lead(plan, network, inboxes, event)
+    let verdict = evaluate(plan, states, votes, network, inboxes, event);
+    let leader = message::byte_at(event, 1);
+    apply(plan, states, votes, network, inboxes, leader, verdict)
 }
 
 // The event call: what `judging::judge` refuses, and then as `perform`; a refusal changes no byte.

@@ -7,6 +7,7 @@
 --     rmStep                the whole call
 -- Its laws are in Rm/Laws.antt. Assumes nothing.
 pub mod Laws
+pub mod Updates
 use Prim.Native.Nat.{ℕ}
 use mathlib.Core.Bool.{Bool, not, cond}
 use mathlib.Core.List.{List}

@@ -149,7 +149,7 @@ fn evaluate_kind(plan: Plan, network: &[u8], kind: u8, who: u8, state: u8, slot:
 
 // What the event comes to: 1 for the plan, 7 where it is no event of a resource manager, then 8, 9, 11, 12 or 13. It judges no table: in one
 // that nobody judged the reader may refuse the slot with 15, 17 or 18.
-fn evaluate(plan: Plan, states: &[u8], network: &[u8], event: &[u8]) -> Verdict
+pub fn evaluate(plan: Plan, states: &[u8], network: &[u8], event: &[u8]) -> Verdict
     ensures { λ r. ⌜ verdictOutcome r ≡ rmVerdict plan (now (states .entry)) (viewBytes plan (now (network .entry))) (now (event .entry)) ⌝ }
 {
     if !message::is_plan(plan) {

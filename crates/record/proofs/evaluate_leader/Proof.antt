@@ -1,10 +1,10 @@
--- `record::lead` meets its contract: the part of I that is lent is the leader's inbox, and is put back at its place. Assumes nothing.
+-- `record::evaluate_leader` meets its contract: the part of I that is lent is the leader's inbox. Assumes nothing.
 use native.Mathlib.Omega.{arith}
 use borrow.Author.Needs.{needs}
 use Rattle.record.proofs.Inboxes.{part-within-of}
-use Rattle.record.proofs.Stepping.{on-inbox}
-use Rattle.record.proofs.lead.Statement.{statement}
-use Rattle.record.proofs.lead.Tie as tie
+use Rattle.record.proofs.Stepping.{leader-part}
+use Rattle.record.proofs.evaluate_leader.Statement.{statement}
+use Rattle.record.proofs.evaluate_leader.Tie as tie
 
 -- the part lies within I
 mul-from : tie.Need-mul-from
@@ -22,11 +22,8 @@ part-inbox-end c =
     let start = c .before .before .before .before .before in
     omega (arith, part-within-of (start .args .plan) (start .args .inboxes .now) _ _ (c .before .byte-at .ensures) (start .pre))
 
--- what the leader left, put back
 returns : tie.Need-returns
-returns c =
-    let performed = c .before .before .before .before in
-    on-inbox _ _ _ _ _ (performed .before .before .before .before .byte-at .ensures) _ (performed .perform .ensures)
+returns c = leader-part _ _ _ _ _ (c .before .before .before .byte-at .ensures) _ (c .evaluate .ensures)
 
 cast-who : tie.Need-cast-who
 cast-who c = search needs
@@ -43,14 +40,8 @@ sub-inbox c = search needs
 part-inbox-start : tie.Need-part-inbox-start
 part-inbox-start c = search needs
 
-same-length : tie.Need-same-length
-same-length c = search needs
-
-same-length-2 : tie.Need-same-length-2
-same-length-2 c = search needs
-
-pub lead-spec : {M : Type 1} → statement M
-lead-spec =
+pub evaluate-leader-spec : {M : Type 1} → statement M
+evaluate-leader-spec =
     tie.close
     (tie.spec
     (λ c κs. tt)
@@ -63,6 +54,4 @@ lead-spec =
     part-inbox-start
     part-inbox-end
     (λ c κs. tt)
-    same-length
-    same-length-2
     returns)
