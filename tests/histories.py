@@ -1,12 +1,19 @@
 """The histories of the program crates/histories: how a history and its lines are written, and which are chosen.
 
-A history in the file stdin is sixteen bytes: how the record begins (0 zeros and opened, 1 given tables and opened, 2 given
-tables), n, A, L, the order number, the lengths of W, Q, N and I, and how many events follow, two bytes each, the higher first. Then come the
-four tables, where they are given, and each event after a byte with its length. Its lines in the file stdout:
+A history in the file stdin begins with a byte that says how the record begins (0 zeros and opened, 1 given tables and opened, 2 given
+tables; 4 more where the tables are not shown at the end), then n, A, L, the order number, and the lengths of W, Q, N and I. The order
+number and lengths are two bytes each, the higher first. Then come the four tables, where they are given: each after its length without the
+zeros at its end, which are left out. Last how many calls follow, in two bytes, and the calls:
+
+    SIZE EVENT                  an event call: a byte with the event's length, at most 254, and the event
+    255 ROOM LENGTH EVENTS      a list call: the lengths of the answers and of the events' bytes, and these
+
+Every byte of the answers is AA before a list call. The lines in the file stdout:
 
     open NUMBER DIGEST          the opening: 0 or the refusal
     0 SLOT DIGEST               an accepted event: the slot of N where the sent message stands, or - for quiet
     NUMBER DIGEST               a refused one
+    run NUMBER [BYTES] DIGEST   a list: 0 or the refusal of the whole call, and the answers after it in hexadecimal
     [BYTES]                     four lines, W, Q, N and I at the end, in hexadecimal, without the zeros at the end
 
 The digest is of the four tables after the call, so it shows a byte that a refused call changed: their bytes one after the
@@ -17,10 +24,26 @@ import random
 
 from calls import decision, m1a, m1b, m2a, m2b, other, proposing, reading, slots
 from cases_random import next_event, random_message
-from model import COMMITTED, MAPS, RM_ABORTED, SLOT, Plan, Record, event_call, open_record, plan_bytes, set_bytes
+from model import (
+    COMMITTED,
+    EVENT,
+    MAPS,
+    RM_ABORTED,
+    SLOT,
+    Plan,
+    Record,
+    event_call,
+    open_record,
+    plan_bytes,
+    run_call,
+    set_bytes,
+)
 
 PRIME = 4294967291
 FRESH, OPENED, GIVEN = 0, 1, 2
+NOT_SHOWN = 4
+LIST = 255
+ANSWER = 0xAA                                           # what each byte of the answers is before a list call; no number
 
 HISTORIES = []
 
@@ -29,12 +52,18 @@ def digest(record):
     return "%08x" % (int.from_bytes(b"".join(record), "little") % PRIME)
 
 
+def two_bytes(number):
+    return number.to_bytes(2, "big")
+
+
 class History:
     """A history as it is written down: every call is made on the model, and gives the next line."""
 
-    def __init__(self, label, plan, record, mode=FRESH):
-        self.label, self.mode, self.plan, self.record = label, mode, Plan(*plan), record
-        self.given, self.events, self.lines, self.numbers = record, [], [], []
+    def __init__(self, label, plan, record, mode=FRESH, shown=True):
+        self.label, self.mode, self.plan, self.record, self.shown = label, mode, Plan(*plan), record, shown
+        self.given, self.calls, self.lines = record, [], []
+        self.events, self.numbers = [], []              # of the event calls
+        self.lists, self.listed = [], []                # the list calls' numbers, and those of the events in accepted ones
         self.opening = None
         if mode != GIVEN:
             outcome = open_record(self.plan, record)
@@ -47,6 +76,8 @@ class History:
         """One more event call. Where its number is known beforehand, the model has to give it."""
         outcome = event_call(self.plan, self.record, bytes(event))
         assert number in (None, outcome[0]), (self.label, self.plan, self.record, event, outcome, number)
+        assert len(event) < LIST
+        self.calls.append(bytes([len(event)]) + bytes(event))
         self.events.append(bytes(event))
         self.numbers.append(outcome[0])
         if outcome[0] == 0:
@@ -55,19 +86,40 @@ class History:
             self.lines.append("0 %s %s" % (slot, digest(self.record)))
         else:
             self.lines.append("%d %s" % (outcome[0], digest(self.record)))
-        if self.opening == 0:
-            # document 01, demand 3
-            assert outcome[0] != 11 and not {COMMITTED, RM_ABORTED} <= set(self.record.states)
+        self.judge([outcome[0]])
         return outcome
 
+    def run(self, events, number=None, answers=None, room=None):
+        """One more list call, on as many answers as there are events, or on `room`. Where its number or the answers are known beforehand, the
+        model has to give them."""
+        lent = bytes([ANSWER]) * (len(events) // EVENT if room is None else room)
+        outcome = run_call(self.plan, self.record, bytes(events), lent)
+        self.calls.append(bytes([LIST]) + two_bytes(len(lent)) + two_bytes(len(events)) + bytes(events))
+        self.lists.append(outcome[0])
+        if outcome[0] == 0:
+            _, lent, self.record = outcome
+            self.listed += lent
+            self.judge(lent)
+        assert number in (None, outcome[0]), (self.label, self.plan, self.record, events, outcome, number)
+        assert answers in (None, list(lent)), (self.label, self.plan, self.record, events, outcome, answers)
+        self.lines.append("run %d [%s] %s" % (outcome[0], lent.hex(), digest(self.record)))
+        return outcome
+
+    def judge(self, numbers):
+        """Document 01, demand 3."""
+        if self.opening == 0:
+            assert 11 not in numbers and not {COMMITTED, RM_ABORTED} <= set(self.record.states)
+
     def text(self):
-        counts = [len(table) for table in self.given] + [len(self.events)]
-        head = bytes([self.mode]) + plan_bytes(self.plan) + b"".join(count.to_bytes(2, "big") for count in counts)
-        tables = b"" if self.mode == FRESH else b"".join(self.given)
-        return head + tables + b"".join(bytes([len(event)]) + event for event in self.events)
+        head = bytes([self.mode + (0 if self.shown else NOT_SHOWN)]) + plan_bytes(self.plan)
+        lengths = [two_bytes(len(table)) for table in self.given]
+        tables = [] if self.mode == FRESH else [table.rstrip(b"\0") for table in self.given]
+        given = [two_bytes(len(table)) + table for table in tables]
+        return b"".join([head, *lengths, *given, two_bytes(len(self.calls)), *self.calls])
 
     def output(self):
-        return "".join(line + "\n" for line in self.lines + ["[%s]" % table.rstrip(b"\0").hex() for table in self.record])
+        tables = ["[%s]" % table.rstrip(b"\0").hex() for table in self.record] if self.shown else []
+        return "".join(line + "\n" for line in self.lines + tables)
 
 
 def zeros(plan, network_slots, inbox_slots):
@@ -151,12 +203,13 @@ def commits():
 
 def long_histories():
     """8,192 events. The first fills N with 1,024 messages of four leaders, seven acceptors and up to 255 ballots; the second fills
-    its inboxes and N; the third has one weight, whose order is decided, and everything is repeated."""
+    its inboxes and N; the third has one weight, whose order is decided, and everything is repeated. The third has some more: 8,192 is the
+    rehearsal's limit, and no call's."""
     rng = random.Random(12)
-    for plan, network_slots, inbox_slots, ballots in (
-            ((16, 7, 4), 1024, 1024, 255), ((2, 3, 2), 70, 16, 24), ((1, 3, 2), 40, 30, 3)):
-        history = History("8192 events under %d %d %d" % plan[:3], plan, zeros(plan, network_slots, inbox_slots))
-        Quick(rng, history, ballots).make_any(8192)
+    for plan, network_slots, inbox_slots, ballots, count in (
+            ((16, 7, 4), 1024, 1024, 255, 8192), ((2, 3, 2), 70, 16, 24, 8192), ((1, 3, 2), 40, 30, 3, 8200)):
+        history = History("%d events under %d %d %d" % (count, *plan[:3]), plan, zeros(plan, network_slots, inbox_slots))
+        Quick(rng, history, ballots).make_any(count)
 
 
 def small_tables():
@@ -171,11 +224,11 @@ def small_tables():
 
 
 def junk():
-    """Bytes of every length from 0 to 255 between events; and random events, most of them refused."""
+    """Bytes of every length from 0 to 254 between events; and random events, most of them refused."""
     rng = random.Random(14)
     plan = (2, 3, 2)
     history = History("junk of every length", plan, zeros(plan, 40, 24))
-    for length in range(256):
+    for length in range(LIST):
         event = bytes(rng.choice((0, 0, 1, 2, 3, rng.randrange(256))) for _ in range(length))
         history.event(event, 7 if length != 4 else None)
         history.event(next_event(rng, history.plan, history.record))
@@ -335,21 +388,157 @@ def orders():
         History("no message under another number", PLAN._replace(order=order), fresh, GIVEN).event(other(0, 1), 0)
 
 
-SECTIONS = [schedules, commits, long_histories, small_tables, junk, openings, damaged, later_rows, given_tables, orders]
+# ---- Lists (document 02, Paper 2) ----
+
+def again():
+    """Each history above a second time: its whole events as one list, on the record as it began. Answers and tables are the same; what is no
+    whole event was refused before and has changed nothing."""
+    for history in list(HISTORIES):
+        whole = [(event, number) for event, number in zip(history.events, history.numbers) if len(event) == EVENT]
+        if whole:
+            refused = next((number for _, number in whole if number in range(1, 7)), 0)
+            answers = [number for _, number in whole] if refused == 0 else [ANSWER] * len(whole)
+            list_of = History(history.label + ", as one list", history.plan, history.given, history.mode, shown=False)
+            list_of.run(b"".join(event for event, _ in whole), refused, answers)
+            assert list_of.record == history.record and list_of.opening == history.opening
+
+
+NONE = bytes([9, 0, 0, 0])                              # no event: 7
+# On the tables SOUND each number that an event of a sound record can be answered with; N and the inbox of leader 0 get full on the way.
+MIXED = [
+    (reading(4, 0, 2), 0), (NONE, 7), (reading(2, 0, 5), 8), (reading(2, 0, 0), 9), (proposing(5, 0, 0, 1), 10), (reading(2, 1, 3), 11),
+    (other(0, 0), 12), (reading(3, 0, 0), 0), (reading(4, 0, 5), 14), (other(0, 1), 13), (reading(2, 0, 3), 0), (reading(2, 0, 4), 11),
+    (other(1, 0), 12), (bytes([0, 2, 0, 0]), 7), (reading(2, 0, 3), 0),
+]
+
+
+def joined(pairs):
+    """The bytes of a list, and its answers."""
+    return b"".join(event for event, _ in pairs), [number for _, number in pairs]
+
+
+def bad_lists(events):
+    """Lists that 19 applies to, each with the length of its answers: cut ones, answers too many or too few, both, and some without an event
+    or without an answer."""
+    count = len(events) // EVENT
+    cut = [(events + bytes(over), count + more) for over in (1, 2, 3) for more in (0, 1, -1)]
+    cut += [(events[:-over], count - less) for over in (1, 2, 3) for less in (0, 1)]
+    short = [(events[:size], room) for size in (1, 2, 3) for room in (0, 1)]
+    rooms = [(events, room) for room in (count + 1, count - 1, 0, len(events))]
+    return cut + short + rooms + [(b"", 1)]
+
+
+# Lengths that would be right if a multiple of 256 were left out.
+LONG_LISTS = [(b"", 256), (NONE * 64, 0), (NONE * 65, 1), (NONE * 256, 0), (NONE * 260, 4), (GOOD[0] * 4, 260)]
+
+
+def refused_lists():
+    """19, also where an event of the list is none (7) or would change tables; then the same events as a list, and refused lists after it."""
+    events, answers = joined(MIXED)
+    history = History("bad lists", PLAN, SOUND, GIVEN)
+    for bad, room in bad_lists(events) + bad_lists(NONE) + bad_lists(GOOD[0]) + LONG_LISTS:
+        history.run(bad, 19, room=room)
+    history.run(events, 0, answers)
+    for bad, room in bad_lists(events):
+        history.run(bad, 19, room=room)
+    history = History("bad lists on an opened record", PLAN, SOUND, OPENED)
+    for event in (other(0, 0), other(0, 1)):
+        for bad, room in bad_lists(event):
+            history.run(bad, 19, room=room)
+        history.run(event, 0, [0])
+
+
+def damaged_lists():
+    """1 to 6 for a list and for an empty one; together with 19 the lower."""
+    events, _ = joined(MIXED)
+    bad = ((events + b"\0", None), (events, 1), (events[:-1], 7), (b"", 1), (b"\0\0\0", None), (NONE + NONE, 3))
+    def refused(label, plan, record, number):
+        history = History(label, plan, record, GIVEN, shown=False)
+        history.run(events, number)
+        history.run(b"", number)
+        for some, room in bad:
+            history.run(some, number, room=room)
+    for number, changes in damages().items():
+        for change in changes:
+            refused("a damaged list, %d" % number, PLAN, change(SOUND), number)
+    for plan in ((0, 3, 2), (17, 3, 2), (2, 0, 2), (2, 8, 2), (2, 3, 0), (2, 3, 5), (255, 255, 255)):
+        for record in (SOUND, damages()[2][0](SOUND), damages()[5][0](SOUND)):
+            refused("a list under a bad plan", plan, record, 1)
+    refused("a list under another number", PLAN._replace(order=0), SOUND, 5)
+
+
+def empty_lists():
+    """Accepted where 1 to 6 pass."""
+    for plan, network_slots, inbox_slots in (((2, 3, 2), 6, 3), ((1, 1, 1), 0, 0), ((16, 7, 4), 1024, 1024)):
+        history = History("an empty list", plan, zeros(plan, network_slots, inbox_slots), shown=False)
+        history.run(b"", 0, [])
+        history.event(other(0, 0))
+        history.run(b"", 0, [])
+        history.run(b"", 19, room=1)
+    History("an empty list", PLAN, SOUND, GIVEN).run(b"", 0, [])
+
+
+def mixed_lists():
+    """Each number from 7 to 14 within one list; the same events in two lists, in lists of one event, and as event calls with a list after them;
+    then all of them once more on what they left. And what is no event (7) at each place of a list."""
+    events, answers = joined(MIXED)
+    for cuts in ([], *([cut] for cut in range(len(MIXED) + 1)), range(1, len(MIXED))):
+        history = History("a mixed list, cut at %s" % list(cuts), PLAN, SOUND, GIVEN, shown=not cuts)
+        for begin, end in zip([0, *cuts], [*cuts, len(MIXED)]):
+            history.run(events[EVENT * begin:EVENT * end], 0, answers[begin:end])
+        history.run(events, 0)
+    history = History("a mixed list after event calls", PLAN, SOUND, GIVEN)
+    for event, number in MIXED[:8]:
+        history.event(event, number)
+    history.run(events[EVENT * 8:], 0, answers[8:])
+    history.run(events, 0)
+    for place in range(len(GOOD) + 1):
+        History("no event in a list", PLAN, SOUND, GIVEN, shown=False).run(b"".join(GOOD[:place] + [NONE] + GOOD[place:]), 0)
+
+
+def lists_between():
+    """Lists of 0 to 12 events between event calls on one record, some with a cut one after them. Each event of a list is chosen for the record
+    that some of those before it lead to, so that many build on each other, and many come late or again."""
+    rng = random.Random(18)
+    for plan, network_slots, inbox_slots, count in (
+            ((1, 1, 1), 8, 6, 12), ((2, 3, 2), 40, 24, 30), ((3, 3, 3), 60, 30, 20), ((1, 5, 4), 40, 20, 20), ((2, 2, 4), 20, 6, 30)):
+        history = History("lists between events under %d %d %d" % plan[:3], plan, zeros(plan, network_slots, inbox_slots))
+        for _ in range(count):
+            events, ahead = b"", history.record
+            for _ in range(rng.randrange(13)):
+                event = next_event(rng, history.plan, ahead)
+                events += event
+                outcome = event_call(history.plan, ahead, event)
+                if outcome[0] == 0 and rng.random() < 0.5:
+                    ahead = outcome[2]
+            history.run(events, 0)
+            if rng.random() < 0.5:
+                history.run(events + bytes(rng.randint(1, 3)), 19)
+            history.event(next_event(rng, history.plan, history.record))
+
+
+SECTIONS = [schedules, commits, long_histories, small_tables, junk, openings, damaged, later_rows, given_tables, orders,
+            again, refused_lists, damaged_lists, empty_lists, mixed_lists, lists_between]
 
 
 def choose():
-    """Writes down every history; sees that each number from 0 to 14 is answered at least twice."""
+    """Writes down every history; sees that event calls answer each number from 0 to 14 at least twice, list calls each from 0 to 6 and 19, and
+    events in lists 0 and each from 7 to 14."""
     for section in SECTIONS:
         section()
-    counts = counted()
-    assert all(counts.get(number, 0) >= 2 for number in range(15)), counts
+    events, lists, listed = counted()
+    assert set(events) == set(range(15)), events
+    assert set(lists) == {*range(7), 19}, lists
+    assert set(listed) == {0, *range(7, 15)}, listed
+    assert all(count >= 2 for counts in (events, lists, listed) for count in counts.values())
 
 
 def counted():
-    """How often each number is answered by an event call."""
-    answers = [number for history in HISTORIES for number in history.numbers]
-    return {number: answers.count(number) for number in sorted(set(answers))}
+    """How often each number is answered by an event call, by a list call, and to an event of a list."""
+    def count(numbers_of):
+        answers = [number for history in HISTORIES for number in numbers_of(history)]
+        return {number: answers.count(number) for number in sorted(set(answers))}
+    return count(lambda history: history.numbers), count(lambda history: history.lists), count(lambda history: history.listed)
 
 
 def stdin():

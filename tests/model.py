@@ -1,10 +1,10 @@
 """A model of documents 01 and 02, written from their text alone: the plan, the messages with reader and writer, the tables, the nine
-events, the three role calls, the record (opening and the event call), and the rehearsal. It shares nothing with the crates.
+events, the three role calls, the record (opening, the event call and the list call), and the rehearsal. It shares nothing with the crates.
 
-    read, write                     the reader and the writer
-    role_call                       the step of a resource manager, an acceptor or a leader as a call by itself
-    open_record, event_call         the record's two calls
-    rehearse                        what the rehearsal prints
+    read, write                         the reader and the writer
+    role_call                           the step of a resource manager, an acceptor or a leader as a call by itself
+    open_record, event_call, run_call   the record's three calls
+    rehearse                            what the rehearsal prints
 
 A resource manager is document 01's weight. A call gives a tuple: 0, then what is accepted, or the refusal's number alone.
 Tables are `bytes`; a refused call gives none, since they keep every byte. docs/DECISIONS.md says how open points are read.
@@ -363,15 +363,20 @@ def inbox_of(plan, record, leader):
     return leader * size, record.inboxes[leader * size:(leader + 1) * size]
 
 
-@call
-def event_call(plan, record, event):
-    """The event call: slot or None, the record after it."""
+def judge_record(plan, record):
+    """Rows 1 to 6."""
     judge_plan(plan)
     judge_lengths(plan, record)
     refuse_if(not are_states(record.states), 3)
     refuse_if(not are_votes(record.votes), 4)
     refuse_if(not is_sound(plan, record.network), 5)
     refuse_if(not all(is_sound(plan, inbox_of(plan, record, leader)[1]) for leader in range(plan.leaders)), 6)
+
+
+@call
+def event_call(plan, record, event):
+    """The event call: slot or None, the record after it."""
+    judge_record(plan, record)
     judge_event(plan, event)
     role, who = role_of(event[0]), event[1]
     if role == RM:
@@ -383,6 +388,23 @@ def event_call(plan, record, event):
     begin, inbox = inbox_of(plan, record, who)
     slot, inbox, network = act(plan, inbox, record.network, event)
     return slot, record._replace(inboxes=set_bytes(record.inboxes, begin, inbox), network=network)
+
+
+EVENT = 4                         # bytes of an event
+
+
+@call
+def run_call(plan, record, events, answers):
+    """The list call (document 02, Paper 2): the answers, one byte an event, and the record after the last event. They are those of the single
+    calls one after the other. A refusal gives neither, since answers and tables keep their bytes."""
+    judge_record(plan, record)
+    refuse_if(len(events) % EVENT != 0 or len(answers) != len(events) // EVENT, 19)
+    numbers = []
+    for at in range(0, len(events), EVENT):
+        outcome = event_call(plan, record, events[at:at + EVENT])
+        numbers.append(outcome[0])
+        record = outcome[2] if outcome[0] == 0 else record
+    return bytes(numbers), record
 
 
 # ---- The rehearsal ----

@@ -3,8 +3,8 @@
 
     python3 tests/rehearsals.py         after `rt check rehearsal narration`; exit status 1 where one differs
 
-Plans that are bad or cut, events that are cut, more than 8,192 events, and random histories. The stored files hold one input
-for each program; the test command compares those, and needs none of this.
+Plans that are bad or cut; events that are cut; 8,192 events, one fewer and one more, each also with a cut one after them; and random
+histories. The stored files hold one input for each program; the test command compares those and tests/rehearsed/, and needs none of this.
 """
 
 import pathlib
@@ -27,8 +27,7 @@ def inputs():
     for plan in ((0, 1, 1), (17, 1, 1), (1, 0, 1), (1, 8, 1), (1, 1, 0), (1, 1, 5), (255, 255, 255), (16, 7, 4)):
         yield plan_bytes(plan) + other(0, 0)
     for count in (MAX_EVENTS - 1, MAX_EVENTS, MAX_EVENTS + 1):
-        yield plan_bytes((1, 1, 1)) + other(1, 0) * count
-        yield plan_bytes((1, 1, 1)) + other(1, 0) * count + b"\0"
+        yield from (plan_bytes((1, 1, 1)) + other(1, 0) * count + bytes(cut) for cut in range(4))
     rng = random.Random(21)
     for _ in range(300):
         text = bytes(rng.randint(1, 3) for _ in range(5))

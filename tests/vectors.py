@@ -4,12 +4,13 @@
     python3 tests/vectors.py write      write crates/PROGRAM/stdin and crates/PROGRAM/stdout of every program, and tests/rehearsed/
     python3 tests/vectors.py check      say whether they are what `write` would write; exit status 1 where one is not
     python3 tests/vectors.py list       print each line of crates/calls/stdout with its number and what the call is for, and how
-                                        often each number is answered in crates/histories
+                                        often each number is answered in crates/histories, by event calls, by list calls and to
+                                        the events of a list
 
 tests/cases_*.py choose the calls, and tests/calls.py says how they are written; tests/histories.py and tests/narration.py
 choose the histories of those two programs; the rehearsal has document 01's example; tests/stories.py chooses the inputs below
-tests/rehearsed/. tests/model.py works out from document 01 alone what each call answers and stores. The test command needs none
-of this: it compares a program's output with the file.
+tests/rehearsed/. tests/model.py works out from documents 01 and 02 alone what each call answers and stores. The test command needs
+none of this: it compares a program's output with the file.
 """
 
 import pathlib
@@ -81,8 +82,9 @@ def main(command):
     if command == "list":
         for k, (what, label, _, _, line) in enumerate(CALLS):
             print("%d %s, %s: %s" % (k + 1, what, label, line))
-        for number, count in histories.counted().items():
-            print("histories, %d: %d event calls" % (number, count))
+        for what, counts in zip(("event calls", "list calls", "events in lists"), histories.counted()):
+            for number, count in counts.items():
+                print("histories, %d: %d %s" % (number, count, what))
         return 0
     differs, paths = 0, set()
     for path, contents in stored():

@@ -3,6 +3,7 @@
 -- would stand in a slot.
 --     other-order-slice       row 18 applies to it, so no message is read; and it is the answer where nothing else is wrong
 --     other-order-record      where it stands in N row 5 of the event call applies, where it stands in an inbox row 6
+--     other-order-list        likewise of the list call
 --     other-order-roles       likewise of the roles' own calls
 -- What applies is what is refused (`demand-1-lowest`). Opening and ending look at no message; the delivery is in apart/specs/Theorems.antt. The
 -- demands are for every plan, so for each order number. The proofs are in Orders/Laws.antt. Assumes nothing.
@@ -26,7 +27,9 @@ use Rattle.matching.specs.Rm.{rmRows}
 use Rattle.matching.specs.Acceptor.{acceptorRows}
 use Rattle.matching.specs.Leader.{leaderRows}
 use Rattle.conformance.specs.Record.{recordRows}
-use Rattle.demands.specs.Orders.Laws.{slice-row, slice-number, network-row, inbox-row, rm-row, acceptor-row, leader-row, leader-inbox-row}
+use Rattle.batch.specs.Rows.{runRows}
+use Rattle.demands.specs.Orders.Laws.{slice-row, slice-number, network-row, inbox-row, list-network-row, list-inbox-row, rm-row, acceptor-row, leader-row}
+use Rattle.demands.specs.Orders.Laws.{leader-inbox-row}
 
 module _ (p q : Plan) (differs : p .order ≡ q .order → ⊥) (m : Message) (given : writeMessage q m .number ≡ 0) where
   pub other-order-slice :
@@ -38,6 +41,11 @@ module _ (p q : Plan) (differs : p .order ≡ q .order → ⊥) (m : Message) (g
       → (List·Memᴰ (writeMessage q m .bytes) (slots (t .network)) → Applies (recordRows p t e) 5)
       × ((l : ℕ) → l < p .leaders → List·Memᴰ (writeMessage q m .bytes) (slots (inboxOf p (t .inboxes) l)) → Applies (recordRows p t e) 6)
   other-order-record t e = (network-row p q differs m given t e, inbox-row p q differs m given t e)
+
+  pub other-order-list : (t : Tables) (events answers : List ℕ)
+      → (List·Memᴰ (writeMessage q m .bytes) (slots (t .network)) → Applies (runRows p t events answers) 5)
+      × ((l : ℕ) → l < p .leaders → List·Memᴰ (writeMessage q m .bytes) (slots (inboxOf p (t .inboxes) l)) → Applies (runRows p t events answers) 6)
+  other-order-list t events answers = (list-network-row p q differs m given t events answers, list-inbox-row p q differs m given t events answers)
 
   pub other-order-roles : (table network e : List ℕ) (s : State)
       → (List·Memᴰ (writeMessage q m .bytes) (slots network) → Applies (rmRows p table network e s) 5)

@@ -1,14 +1,16 @@
--- The demands on one page. `recordStep`, `recordOpen`, `rmStep`, `acceptorStep`, `leaderStep`, `readMessage` and `writeMessage` are what the
--- contracts of the calls equate their answers and tables with, for all tables, bytes and events: no contract has a `requires`, and every call ends.
---     demand-1, -lowest (-opening, -roles, -messages)      an acceptance or one refusal number from the documents; the lowest that applies; no byte changes
+-- The demands on one page. `recordStep`, `recordRun`, `recordOpen`, `rmStep`, `acceptorStep`, `leaderStep`, `readMessage` and `writeMessage` are what
+-- the contracts of the calls equate their answers and tables with, for all tables, bytes and events: no contract has a `requires`, and every call ends.
+--     demand-1, -lowest (-list, -opening, -roles, -messages)      an acceptance or one refusal number from the documents; the lowest that applies; no
+--                           byte changes
 --     demand-2, -acts, -sets, -copies, -published      accepted exactly where the published action is enabled and no other row applies; what is then set
---     demand-3, -words      over every list of event calls from a fresh record
+--     demand-3, -words      over every list of event calls and list calls from a fresh record
+--     list-counts           a list call counts as its single calls in order, and as none where it is refused; its answers and tables are theirs
 --     byte-form, -written   a slice is read as a message exactly where it is the one form of that message
---     orders-apart, -roles  no call accepts what another order's writer gives, not as a slice and not from a table; by which rows: Orders.antt
+--     orders-apart, -list, -roles  no call accepts what another order's writer gives, not as a slice and not from a table; by which rows: Orders.antt
 -- For every plan, so for each order number. Assumes nothing.
 use Prim.Native.Nat.{ℕ, _<_}
 use mathlib.Core.Bool.{true}
-use mathlib.Core.List.{List, List·Memᴰ}
+use mathlib.Core.List.{List, [], _∷_, _++_, map, List·Memᴰ}
 use mathlib.Core.Logic.{_↔_}
 use mathlib.Core.Path.{_≡_, refl}
 use lib.ListN.{take}
@@ -34,14 +36,17 @@ use Rattle.conformance.specs.Record.{recordState, recordRows, Acted}
 use Rattle.conformance.specs.Action.{Action, Copies}
 use Rattle.conformance.specs.Action.Laws.{action-acted, copies-acted, enabled-no-row}
 use Rattle.conformance.specs.Theorems.{record-answers, record-keeps, record-acts, open-answers, open-keeps}
+use Rattle.batch.specs.Run.{eventsOf, numbersOf, recordRun}
+use Rattle.batch.specs.Rows.{runRows}
+use Rattle.batch.specs.Theorems.{run-answers, run-keeps}
+use Rattle.safety.specs.Lists.{Fresh, Call, event, run, made, AfterEach, Safe, tablesAfter}
 use Rattle.safety.specs.Theorems as Safety
-use Rattle.safety.specs.Theorems.{Fresh, Call, AfterEach, Safe, tablesAfter}
 use Rattle.safety.specs.Words as Words
 use Rattle.safety.specs.Words.{SafeInWords}
 use Rattle.safety.specs.Behaviour.{action-published}
 use Rattle.demands.specs.Answer.{AcceptedOr, KeepsOwn}
 use Rattle.demands.specs.Answer.Laws.{isWithin, accepted-or}
-use Rattle.demands.specs.Orders.Laws.{network-row, inbox-row, rm-row, acceptor-row, leader-row, leader-inbox-row}
+use Rattle.demands.specs.Orders.Laws.{network-row, inbox-row, list-network-row, list-inbox-row, rm-row, acceptor-row, leader-row, leader-inbox-row}
 
 module _ (p : Plan) (t : Tables) where
   pub demand-1 : (e : List ℕ)
@@ -53,6 +58,21 @@ module _ (p : Plan) (t : Tables) where
   pub demand-1-lowest : (e : List ℕ) (k : ℕ)
       → (recordStep p t e .answer ≡ refused k) ↔ (Applies (recordRows p t e) k × ((j : ℕ) → j < k → Applies (recordRows p t e) j → ⊥))
   demand-1-lowest e = record-answers p t e .refuses
+
+  -- the list call, which is lent the answers too
+  pub demand-1-list : (events given : List ℕ)
+      → AcceptedOr 1 19 (recordRun p t events given .answer)
+      × ((k : ℕ) → recordRun p t events given .answer ≡ refused k
+      → (recordRun p t events given .tables ≡ t) × (recordRun p t events given .answers ≡ given))
+      × ((k : ℕ)
+      → (recordRun p t events given .answer ≡ refused k)
+      ↔ (Applies (runRows p t events given) k × ((j : ℕ) → j < k → Applies (runRows p t events given) j → ⊥)))
+  unfolding isWithin
+  demand-1-list events given = (
+    accepted-or 1 19 (runRows p t events given) refl _ (run-answers p t events given),
+    run-keeps p t events given,
+    run-answers p t events given .refuses,
+  )
 
   pub demand-1-opening : AcceptedOr 1 2 (recordOpen p t .answer) × ((k : ℕ) → recordOpen p t .answer ≡ refused k → recordOpen p t .tables ≡ t)
   unfolding isWithin
@@ -108,6 +128,15 @@ module _ (p : Plan) (t : Tables) (fresh : Fresh t) (calls : List Call) where
       → PCStep (isRM p) (isAcceptor p) (isMajoritySet p) (recordState p (tablesAfter p t calls)) s′
   demand-2-published = action-published p t fresh calls
 
+-- document 02, Paper 2: what such a list has of a list call, on any tables. The answers are the single calls' numbers, 0 or the refusal
+pub list-counts : (p : Plan) (t : Tables) (events given : List ℕ) (calls : List Call)
+    → ((recordRun p t events given .answer ≡ accepted tt)
+    → (made p t (run events given ∷ calls) ≡ made p t (map event (eventsOf events) ++ calls))
+    × (recordRun p t events given .answers ≡ numbersOf (made p t (run events given ∷ [])))
+    × (recordRun p t events given .tables ≡ tablesAfter p t (run events given ∷ [])))
+    × ((k : ℕ) → recordRun p t events given .answer ≡ refused k → made p t (run events given ∷ calls) ≡ made p t calls)
+list-counts = Safety.run-counts
+
 -- the form of a message is `bytesOf`; the writer gives it, with zeros after it, and 0 as its number
 module _ (p : Plan) (m : Message) where
   pub byte-form : (bytes : List ℕ)
@@ -130,6 +159,15 @@ module _ (p q : Plan) (differs : p .order ≡ q .order → ⊥) (m : Message) (g
     (λ n. other-written p q m n differs given),
     (λ t e there taken. record-answers p t e .accepts .0 taken 5 (network-row p q differs m given t e there)),
     λ t e l own there taken. record-answers p t e .accepts .0 taken 6 (inbox-row p q differs m given t e l own there),
+  )
+
+  pub orders-apart-list : (t : Tables) (events answers : List ℕ)
+      → (List·Memᴰ (writeMessage q m .bytes) (slots (t .network)) → recordRun p t events answers .answer ≡ accepted tt → ⊥)
+      × ((l : ℕ) → l < p .leaders → List·Memᴰ (writeMessage q m .bytes) (slots (inboxOf p (t .inboxes) l))
+      → recordRun p t events answers .answer ≡ accepted tt → ⊥)
+  orders-apart-list t events answers = (
+    (λ there taken. run-answers p t events answers .accepts .0 (tt, taken) 5 (list-network-row p q differs m given t events answers there)),
+    λ l own there taken. run-answers p t events answers .accepts .0 (tt, taken) 6 (list-inbox-row p q differs m given t events answers l own there),
   )
 
   pub orders-apart-roles : (table network e : List ℕ)

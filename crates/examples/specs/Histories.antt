@@ -3,6 +3,7 @@
 --     order, fresh          the plan and the fresh record
 --     committing, aborting, declining     the lists of calls
 --     orders-end            what they answer, and W afterwards
+--     committing-list, lists-end     the first as one list, and lists that are refused whole
 --     order-examples        an old map, a bad field of another order, other orders by either byte, and a Commit of this order and of another
 --     on, unused, refusals     each number of the event call, on tables given byte by byte
 --     spread, places        three weights, three acceptors and two leaders: where each call puts its bytes in the four tables
@@ -33,7 +34,8 @@ use Rattle.inbox.specs.Inbox.{any, is1b, is2a, is2b, higher, reportOf, highestR
 use Rattle.leader.specs.Leader.{owns, leaderJudged, receiptStore, receipt, phase1a, phase2aMessage, keepOwn, sendBoth, phase2a, sendOnly, decideSend}
 use Rattle.leader.specs.Leader.{leaderKind, leaderVerdict, leaderStep}
 use Rattle.record.specs.Record.{Tables, tablesOf, inboxSize, inboxOf, withInbox, areLengths, areInboxes, recordJudged, roleStep, recordStep}
-use Rattle.safety.specs.Theorems.{Call, event, answers, tablesAfter}
+use Rattle.batch.specs.Run.{Run, runJudged, finishedRun, recordRun}
+use Rattle.safety.specs.Lists.{Call, event, answers, tablesAfter}
 
 abbrev pub order : Plan
 order = record { rms = 1; acceptors = 1; leaders = 1; order = 0x0102 }
@@ -74,6 +76,41 @@ unfolding readMessage andThen refuseIf isPlan isCount isValue isVote isInRange b
     receiptStore receipt phase1a phase2aMessage keepOwn sendBoth phase2a sendOnly decideSend leaderKind leaderVerdict leaderStep
     inboxSize inboxOf withInbox areLengths areInboxes recordJudged roleStep recordStep
 orders-end = (refl, refl, refl, refl, refl, refl)
+
+-- the same calls handed in as one list (document 02, Paper 2): their numbers, and their tables. An event that is none and one that is refused end
+-- nothing; a list that is cut, and one with an answer too many or too few, is refused whole with 19, and a bad plan or table before that
+abbrev pub committing-list : List ℕ
+committing-list =
+    0 ∷ 0 ∷ 0 ∷ 0
+    ∷ 3 ∷ 0 ∷ 0 ∷ 0
+    ∷ 9 ∷ 0 ∷ 0 ∷ 0
+    ∷ 4 ∷ 0 ∷ 0 ∷ 1
+    ∷ 7 ∷ 0 ∷ 0 ∷ 0
+    ∷ 2 ∷ 0 ∷ 0 ∷ 2
+    ∷ 1 ∷ 0 ∷ 0 ∷ 0
+    ∷ []
+
+pub lists-end :
+    (recordRun order fresh committing-list (replicate 7 99) .answer ≡ accepted tt)
+    × (recordRun order fresh committing-list (replicate 7 99) .answers ≡ 0 ∷ 0 ∷ 7 ∷ 0 ∷ 0 ∷ 0 ∷ 12 ∷ [])
+    × (recordRun order fresh committing-list (replicate 7 99) .tables .states ≡ 2 ∷ [])
+    × (recordRun order fresh [] [] ≡ record { answer = accepted tt; tables = fresh; answers = [] })
+    × (recordRun order fresh (0 ∷ 0 ∷ 0 ∷ []) (99 ∷ []) ≡ record { answer = refused 19; tables = fresh; answers = 99 ∷ [] })
+    × (recordRun order fresh (0 ∷ 0 ∷ 0 ∷ 0 ∷ 7 ∷ []) (99 ∷ []) ≡ record { answer = refused 19; tables = fresh; answers = 99 ∷ [] })
+    × (recordRun order fresh (0 ∷ 0 ∷ 0 ∷ 0 ∷ []) [] ≡ record { answer = refused 19; tables = fresh; answers = [] })
+    × (recordRun order fresh (0 ∷ 0 ∷ 0 ∷ 0 ∷ []) (98 ∷ 99 ∷ []) ≡ record { answer = refused 19; tables = fresh; answers = 98 ∷ 99 ∷ [] })
+    × (recordRun (record { rms = 0; acceptors = 1; leaders = 1; order = 0x0102 }) fresh (0 ∷ []) [] .answer ≡ refused 1)
+    × (recordRun order (tablesOf (4 ∷ []) (replicate 3 0) (replicate 48 0) (replicate 48 0)) (0 ∷ []) [] .answer ≡ refused 3)
+unfolding readMessage andThen refuseIf isPlan isCount isValue isVote isInRange bytesOf bytesOf1b messageLength slotOf mapLengths
+    mapLength fieldsMessage decode hasOrder all isTableLength slotsUpTo slots isZero readSlot readTable allUnused isOrdered isTable usedMessages
+    messages sameBytes storeAt sameMessage placeFrom placeIn messageAt sending slotNumber whoLimit areZero areArguments isEvent
+    areStates rmJudged rmChoose rmReceiveDecision rmReceive rmKind rmVerdict rmStep voteAt
+    isVoteState areVotes acceptorJudged voteOf phase1b phase2b acceptorReceive acceptorVerdict acceptorStep countAcceptors isMajority
+    isQuorum any is1b is2a is2b higher reportOf highestReport proposal chosen isChosen2b decided forAll forSome owns leaderJudged
+    receiptStore receipt phase1a phase2aMessage keepOwn sendBoth phase2a sendOnly decideSend leaderKind leaderVerdict leaderStep
+    inboxSize inboxOf withInbox areLengths areInboxes recordJudged roleStep recordStep runJudged
+    finishedRun recordRun
+lists-end = (refl, refl, refl, refl, refl, refl, refl, refl, refl, refl)
 
 -- leader 1 opens ballot 3 for weight 2, acceptor 1 promises, leader 1 hears of it, weight 2 prepares
 abbrev pub spread : List Call

@@ -1,20 +1,25 @@
-// Makes stored histories on the record, each a list of event calls from an opened record or from given tables, and prints after each call
-// its answer and a digest of the four tables (document 01, "The plan and four tables", "The nine events", "Refusals by place").
+// Makes stored histories on the record, each some event calls and list calls from an opened record or from given tables, and prints after
+// each call its answer and a digest of the four tables (document 01, "The plan and four tables", "The nine events", "Refusals by place";
+// document 02, Paper 2).
 //
 // The histories stand in the file stdin beside src/. tests/histories.py says how history and lines are written and chooses the events;
-// tests/model.py works out from document 01 alone what each call answers and stores. Those lines are the file stdout, and the check
+// tests/model.py works out from documents 01 and 02 alone what each call answers and stores. Those lines are the file stdout, and the check
 // compares the two.
 //
-//     Head, head_of                   a history's plan, the lengths of its tables, and how many events it has
+//     Head, head_of                   how a history begins, and its plan
+//     read_end, read_part             as many bytes of a buffer as the next number says
 //     fold, say_digest                every byte of W, Q, N and I, as one number below a prime
 //     say_table                       a table without the zeros at its end
-//     run_event, run_events, run      the calls of a history on the parts of buffers that are its tables
+//     run_event                       an event call
+//     lent_answers, run_list          what a list call is lent for the answers, and the call
+//     run_calls, run                  the calls of a history on the parts of buffers that are its tables
 //
 // Each function is proved to be safe and to end; none has a contract on what it prints. Assumes nothing of its own.
 ghost use mathlib.Core.Path.{_≡_};
 ghost use Prim.Native.Nat.{_≤_, min};
 ghost use lib.ListN.{length};
 use change::Answer;
+use change::Judged;
 use change::Sent;
 use libc::STDIN_FILENO;
 use libc::STDOUT_FILENO;
@@ -25,39 +30,24 @@ const MAX_HISTORIES: usize = 65536;
 // The largest prime below 2^32.
 const PRIME: u64 = 4294967291;
 
-// How the record begins (0 zeros and opened, 1 given tables and opened, 2 given tables), the plan, the lengths of W, Q, N and I, and how
-// many events follow.
+// In place of an event's length: a list call.
+const LIST: u8 = 255;
+
+// How the record begins (0 zeros and opened, 1 given tables and opened, 2 given tables; 4 more where the tables are not shown at the end),
+// and the plan.
 struct Head {
     mode: u8,
     plan: Plan,
-    states: usize,
-    votes: usize,
-    network: usize,
-    inboxes: usize,
-    events: usize,
 }
 
-// A number of two bytes, the higher first.
-fn number_of(high: u8, low: u8) -> usize {
-    256 * (high as usize) + (low as usize)
-}
-
-fn head_of(b: &[u8; 16]) -> Head {
+fn head_of(b: &[u8; 6]) -> Head {
     let plan = Plan {
         rms: b[1],
         acceptors: b[2],
         leaders: b[3],
         order: message::order_of(b[4], b[5]),
     };
-    Head {
-        mode: b[0],
-        plan,
-        states: number_of(b[6], b[7]),
-        votes: number_of(b[8], b[9]),
-        network: number_of(b[10], b[11]),
-        inboxes: number_of(b[12], b[13]),
-        events: number_of(b[14], b[15]),
-    }
+    Head { mode: b[0], plan }
 }
 
 fn least(a: usize, b: usize) -> usize
@@ -118,6 +108,12 @@ fn say_answer(answer: Answer) {
     }
 }
 
+// What an opening and a list call answer: 0 or the refusal.
+fn say_judged(call: &[u8], judged: Judged) {
+    say(call);
+    say_number(change::judged_number(judged) as u64);
+}
+
 // Where the zeros at the end of a table begin.
 fn used_end(table: &[u8]) -> usize
     ensures { λ r. ⌜ r ≤ length (now (table .entry)) ⌝ }
@@ -153,11 +149,48 @@ fn say_table(table: &[u8]) {
     say(b"]\n");
 }
 
-fn say_tables(states: &[u8], votes: &[u8], network: &[u8], inboxes: &[u8]) {
+fn say_tables(mode: u8, states: &[u8], votes: &[u8], network: &[u8], inboxes: &[u8]) {
+    if 4 <= mode {
+        return;
+    }
     say_table(states);
     say_table(votes);
     say_table(network);
     say_table(inboxes);
+}
+
+// A number of two bytes, the higher first.
+fn number_of(high: u8, low: u8) -> usize {
+    256 * (high as usize) + (low as usize)
+}
+
+fn pair_of(b: &[u8; 2]) -> usize {
+    number_of(b[0], b[1])
+}
+
+fn read_number() -> usize {
+    let mut bytes = [0u8; 2];
+    if io::read_full(STDIN_FILENO, &mut bytes) < 2 {
+        return 0;
+    }
+    pair_of(&bytes)
+}
+
+// Reads where a part at the start of the buffer ends.
+fn read_end(buffer: &[u8]) -> usize
+    ensures { λ r. ⌜ r ≤ length (now (buffer .entry)) ⌝ }
+{
+    least(read_number(), buffer.len())
+}
+
+// The same, and then the part's bytes.
+fn read_part(buffer: &mut [u8]) -> usize
+    ensures { λ r. ⌜ r ≤ length (now (buffer .exit)) ⌝ }
+{
+    let end = read_end(buffer);
+    let part = &mut buffer[..end];
+    io::read_full(STDIN_FILENO, part);
+    end
 }
 
 // Reads an event of the length, and makes it.
@@ -175,30 +208,80 @@ fn run_event(
     io::read_full(STDIN_FILENO, event);
     let answer = record::step(plan, states, votes, network, inboxes, event);
     say_answer(answer);
-    say_digest(states, votes, network, inboxes);
+}
+
+// The answers before a list call, of which its first bytes are lent: every byte is AA, which is no number.
+fn lent_answers() -> [u8; 65536]
+    ensures { λ r. ⌜ 65536 ≡ length r ⌝ }
+{
+    [170; 65536]
+}
+
+// A list call's answer, and those to its events.
+fn say_run(judged: Judged, answers: &[u8]) {
+    say_judged(b"run ", judged);
+    say(b" [");
+    say_bytes(answers);
+    say(b"]");
+}
+
+// Reads how long the answers are, and a list, and makes the list call.
+fn run_list(
+    plan: Plan,
+    states: &mut [u8],
+    votes: &mut [u8],
+    network: &mut [u8],
+    inboxes: &mut [u8],
+    buffer: &mut [u8],
+    lent: &mut [u8],
+) {
+    let room = read_end(lent);
+    let answers = &mut lent[..room];
+    let end = read_part(buffer);
+    let events = &buffer[..end];
+    let judged = batch::run(plan, states, votes, network, inboxes, events, answers);
+    say_run(judged, answers);
+}
+
+// Makes the call that begins with the byte.
+fn run_call(
+    plan: Plan,
+    states: &mut [u8],
+    votes: &mut [u8],
+    network: &mut [u8],
+    inboxes: &mut [u8],
+    size: u8,
+) {
+    if size == LIST {
+        let mut large = io::large_buffer();
+        let mut lent = lent_answers();
+        run_list(plan, states, votes, network, inboxes, &mut large, &mut lent);
+        return;
+    }
+    let mut buffer = io::buffer();
+    run_event(plan, states, votes, network, inboxes, &mut buffer, size);
 }
 
 fn byte_of(b: &[u8; 1]) -> u8 {
     b[0]
 }
 
-fn run_events(
+fn run_calls(
     plan: Plan,
     states: &mut [u8],
     votes: &mut [u8],
     network: &mut [u8],
     inboxes: &mut [u8],
-    count: usize,
 ) {
+    let count = read_number();
     let mut k: usize = 0;
     while k < count {
         let mut byte = [0u8; 1];
         if io::read_full(STDIN_FILENO, &mut byte) < 1 {
             return;
         }
-        let size = byte_of(&byte);
-        let mut buffer = io::buffer();
-        run_event(plan, states, votes, network, inboxes, &mut buffer, size);
+        run_call(plan, states, votes, network, inboxes, byte_of(&byte));
+        say_digest(states, votes, network, inboxes);
         k += 1;
     }
 }
@@ -211,13 +294,13 @@ fn read_tables(
     network: &mut [u8],
     inboxes: &mut [u8],
 ) {
-    if mode == 0 {
+    if mode % 4 == 0 {
         return;
     }
-    io::read_full(STDIN_FILENO, states);
-    io::read_full(STDIN_FILENO, votes);
-    io::read_full(STDIN_FILENO, network);
-    io::read_full(STDIN_FILENO, inboxes);
+    read_part(states);
+    read_part(votes);
+    read_part(network);
+    read_part(inboxes);
 }
 
 // Opens the record, where the history says so.
@@ -229,12 +312,11 @@ fn run_open(
     network: &mut [u8],
     inboxes: &mut [u8],
 ) {
-    if mode == 2 {
+    if mode % 4 == 2 {
         return;
     }
     let judged = opening::open(plan, states, votes, network, inboxes);
-    say(b"open ");
-    say_number(change::judged_number(judged) as u64);
+    say_judged(b"open ", judged);
     say_digest(states, votes, network, inboxes);
 }
 
@@ -245,15 +327,14 @@ fn run(
     votes: &mut [u8],
     network: &mut [u8],
     inboxes: &mut [u8],
-    count: usize,
 ) {
     read_tables(mode, states, votes, network, inboxes);
     run_open(mode, plan, states, votes, network, inboxes);
-    run_events(plan, states, votes, network, inboxes, count);
-    say_tables(states, votes, network, inboxes);
+    run_calls(plan, states, votes, network, inboxes);
+    say_tables(mode, states, votes, network, inboxes);
 }
 
-// Lends the first bytes of the buffers as the tables.
+// Reads how long the tables are, and lends the first bytes of the buffers as these.
 fn run_parts(
     head: Head,
     states: &mut [u8],
@@ -261,23 +342,21 @@ fn run_parts(
     network: &mut [u8],
     inboxes: &mut [u8],
 ) {
-    let plan = head.plan;
-    let states_end = least(head.states, states.len());
-    let votes_end = least(head.votes, votes.len());
-    let network_end = least(head.network, network.len());
-    let inboxes_end = least(head.inboxes, inboxes.len());
+    let states_end = read_end(states);
+    let votes_end = read_end(votes);
+    let network_end = read_end(network);
+    let inboxes_end = read_end(inboxes);
     let states_part = &mut states[..states_end];
     let votes_part = &mut votes[..votes_end];
     let network_part = &mut network[..network_end];
     let inboxes_part = &mut inboxes[..inboxes_end];
     run(
         head.mode,
-        plan,
+        head.plan,
         states_part,
         votes_part,
         network_part,
         inboxes_part,
-        head.events,
     );
 }
 
@@ -292,8 +371,8 @@ fn run_history(head: Head) {
 fn main() {
     let mut k: usize = 0;
     while k < MAX_HISTORIES {
-        let mut bytes = [0u8; 16];
-        if io::read_full(STDIN_FILENO, &mut bytes) < 16 {
+        let mut bytes = [0u8; 6];
+        if io::read_full(STDIN_FILENO, &mut bytes) < 6 {
             return;
         }
         run_history(head_of(&bytes));

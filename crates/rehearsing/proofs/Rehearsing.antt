@@ -1,8 +1,8 @@
 -- From the text to the rehearsal.
---     votes-within, run-opened          the tables' parts are opened as the fresh ones
---     nothing-put, rehearsal-put        a buffer that is too short, and one that is not
---     plan-given, plan-refused          the two cases of the text
---     events-within, given-plan         what the events' length and the plan are known to be
+--     votes-within, opened-judged, run-opened     the tables' parts are opened as the fresh ones, which are sound
+--     nothing-put, rehearsal-put                  a buffer that is too short, and one that is not
+--     plan-given, plan-refused                    the two cases of the text
+--     events-within, given-plan                   what the events' length and the plan are known to be
 -- Assumes nothing.
 use Prim.Native.Nat.{ℕ, _+_, _*_, _≤_, _<_}
 use mathlib.Core.Bool.{true}
@@ -18,8 +18,8 @@ use Rattle.message.specs.Outcome.{accepted}
 use Rattle.message.specs.Plan.{isPlan}
 use Rattle.message.specs.Plan.Laws.{plan-bounds}
 use Rattle.slots.specs.Table.{isTableLength}
-use Rattle.record.specs.Record.{Tables, tablesOf, Opening, recordOpen}
-use Rattle.safety.specs.Theorems.{Call}
+use Rattle.record.specs.Record.{Tables, tablesOf, Opening, recordOpen, recordJudged}
+use Rattle.safety.specs.Lists.{Call}
 use Rattle.rehearsal_input.specs.declared.PlanRead.{PlanRead}
 use Rattle.rehearsal_input.specs.declared.PlanRead.the-variants.{Given, Refused}
 use Rattle.rehearsal_input.specs.Input.{planIn, planOutcome, eventsIn}
@@ -28,26 +28,33 @@ use Rattle.rehearsal_input.specs.Theorems.{events-count}
 use Rattle.rehearsal_text.specs.Text.{line, Put, putOf, put}
 use Rattle.rehearsal_text.specs.Text.Laws.{put-within}
 use Rattle.rehearsing.specs.Rehearsal.{callsIn, freshTables, textOf, printedFor, rehearsed, rehearsal}
-use Rattle.rehearsing.specs.Rehearsal.Laws.{opens, rehearsed-length}
+use Rattle.rehearsing.specs.Rehearsal.Laws.{opens, fresh-judged, rehearsed-length}
 
 module _ (p : Plan) (plan : isPlan p ≡ true) where
   pub votes-within : p .rms * p .acceptors ≤ 112
   votes-within =
       mul-le-mul {n₁ = p .rms} {m₁ = p .acceptors} {n₂ = 16} {m₂ = 7} (plan-bounds p plan .rms-most) (plan-bounds p plan .acceptors-most)
 
-  pub run-opened : (w q n i : List ℕ) → (length w ≡ 16) × (length q ≡ 336) × (length n ≡ 8192) × (length i ≡ 32768)
-      → (o : Opening) → o ≡ recordOpen p (tablesOf (take (p .rms) w) (take (3 * (p .rms * p .acceptors)) q) n (take (p .leaders * 8192) i))
-      → (calls : List Call) (output : List ℕ) (s : Put) → s ≡ put 0 (textOf p (o .tables) calls) output
-      → s ≡ put 0 (textOf p (freshTables 1024 p) calls) output
-  unfolding isTableLength
-  run-opened w q n i lengths o cleared calls output s run =
-      let b = plan-bounds p plan in
-      let v = votes-within in
-      let first = b .rms-most in
-      let last = b .leaders-most in
-      let is = opens p 1024 plan refl _ (length-take-le (p .rms) w (omega arith)) (length-take-le (3 * (p .rms * p .acceptors)) q (omega arith))
-      (lengths .2) (length-take-le (p .leaders * 8192) i (omega arith)) in
-      run ∙ ap (λ (x : Tables). put 0 (textOf p x calls) output) (ap (λ (x : Opening). x .tables) (cleared ∙ is))
+  module _ (w q n i : List ℕ) (lengths : (length w ≡ 16) × (length q ≡ 336) × (length n ≡ 8192) × (length i ≡ 32768)) (o : Opening)
+      (cleared : o ≡ recordOpen p (tablesOf (take (p .rms) w) (take (3 * (p .rms * p .acceptors)) q) n (take (p .leaders * 8192) i))) where
+    tables-opened : o .tables ≡ freshTables 1024 p
+    unfolding isTableLength
+    tables-opened =
+        let b = plan-bounds p plan in
+        let v = votes-within in
+        let first = b .rms-most in
+        let last = b .leaders-most in
+        let is = opens p 1024 plan refl _ (length-take-le (p .rms) w (omega arith)) (length-take-le (3 * (p .rms * p .acceptors)) q (omega arith))
+        (lengths .2) (length-take-le (p .leaders * 8192) i (omega arith)) in
+        ap (λ (x : Opening). x .tables) (cleared ∙ is)
+
+    pub opened-judged : recordJudged p (o .tables) ≡ accepted tt
+    unfolding isTableLength
+    opened-judged = ap (recordJudged p) tables-opened ∙ fresh-judged p 1024 plan refl
+
+    pub run-opened : (calls : List Call) (output : List ℕ) (s : Put) → s ≡ put 0 (textOf p (o .tables) calls) output
+        → s ≡ put 0 (textOf p (freshTables 1024 p) calls) output
+    run-opened calls output s run = run ∙ ap (λ (x : Tables). put 0 (textOf p x calls) output) tables-opened
 
 module _ (input output : List ℕ) where
   pub nothing-put : length output < 24586 → putOf 0 output ≡ rehearsal input output

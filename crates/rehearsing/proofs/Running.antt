@@ -1,55 +1,82 @@
--- From a call and its line to the text of all.
---     made-within             a call that is to be made is one of the events, and of 8,192
---     run-step, run-end       call by call: the text from here gives the text from the start
+-- From the list call and its lines to the text of all.
+--     lines-step, lines-end     line by line: the lines from here give those from the start
+--     cut-none, cut-put         no event is cut; one is
+--     run-put                   the lines of the list call's answers, that of a cut event, then the word: the text of all the calls
 -- Assumes nothing.
-use Prim.Native.Nat.{ℕ, suc, _+_, _-_, _*_, _≤_, _<_}
-use mathlib.Core.List.{List}
-use mathlib.Core.Path.{_≡_, sym, _∙_, ap}
+use Prim.Native.Nat.{ℕ, suc, _+_, _*_, _/_, _%_, _≤_, _<_}
+use mathlib.Core.Bool.{true}
+use mathlib.Core.List.{List, _++_}
+use mathlib.Core.Path.{_≡_, refl, sym, _∙_, ap}
+use native.Mathlib.Numerals.{add-one}
 use native.Mathlib.Omega.{arith}
-use lib.ListN.{length, take, drop, drop-of-length-le}
+use lib.ListN.{length, getD, take, drop, drop-of-length-le}
+use lib.Seq.{drop-cons, length-take-le}
+use borrow.Author.Tests.{eq-eqb, ne-eqb}
 use Rattle.message.specs.declared.Plan.{Plan}
-use Rattle.message.specs.Outcome.{numberOf}
+use Rattle.message.specs.Outcome.{accepted}
 use Rattle.ending.specs.declared.Ending as EndingType
 use Rattle.ending.specs.Ending.{endingOf}
-use Rattle.record.specs.Record.{Tables, RecordStep, recordStep}
-use Rattle.rehearsal_input.specs.Input.{eventCount, eventAt}
-use Rattle.rehearsal_text.specs.Text.{line, wordOf, Put, put}
-use Rattle.rehearsal_text.specs.Text.Laws.{put-then}
-use Rattle.rehearsing.specs.Rehearsal.{callsIn, textOf}
-use Rattle.rehearsing.specs.Rehearsal.Laws.{calls-next, calls-end, text-next, text-end}
+use Rattle.record.specs.Record.{Tables, RecordStep, recordJudged}
+use Rattle.batch.specs.Run.{eventsOf, singleCalls, tablesLeft, numbersOf, Run, isList, finishedRun, recordRun}
+use Rattle.batch.proofs.Running.{run-finished}
+use Rattle.rehearsal_text.specs.Text.{line, wordOf, Put, putOf, put}
+use Rattle.rehearsal_text.specs.Text.Laws.{put-none, put-then}
+use Rattle.rehearsing.specs.Rehearsal.{callsIn, textOf, numberLines, cutLine}
+use Rattle.rehearsing.specs.Rehearsal.Laws.{events-whole, text-whole}
 
-module _ (events : List ℕ) (count made : ℕ) (all : count ≡ eventCount events) where
-  pub made-within : length events ≤ 32768 → made < count → (4 * made < length events) × (made < 8192)
-  made-within most h = (omega arith, omega arith)
+module _ (answers output : List ℕ) (at i : ℕ) (whole : Put) (inv : put at (numberLines (drop i answers)) output ≡ whole) where
+  pub lines-step : i < length answers → (o : Put) → o ≡ put at (line (getD answers i 0)) output
+      → put (o .end) (numberLines (drop (i + 1) answers)) (o .buffer) ≡ whole
+  lines-step h o lined =
+      rw (lined, add-one i)
+      (sym (put-then at (line (getD answers i 0)) (numberLines (drop (suc i) answers)) output)
+      ∙ ap (λ (l : List ℕ). put at (numberLines l) output) (sym (drop-cons answers i 0 h)) ∙ inv)
 
-  -- `t` are the tables after `made` calls, whose lines end at `at` of `output`
-  module _ (p : Plan) (t : Tables) (at : ℕ) (output : List ℕ) (whole : Put)
-      (inv : put at (textOf p t (callsIn (8192 - made) (drop (4 * made) events))) output ≡ whole) where
-    pub run-step : length events ≤ 32768 → made < count
-        → (e : List ℕ) → e ≡ eventAt events made
-        → (s : RecordStep) → s ≡ recordStep p t e
-        → (n : ℕ) → n ≡ numberOf (s .answer)
-        → (o : Put) → o ≡ put at (line n) output
-        → put (o .end) (textOf p (s .tables) (callsIn (8192 - (made + 1)) (drop (4 * (made + 1)) events))) (o .buffer) ≡ whole
-    unfolding eventAt
-    run-step most h e is s step n number o lined =
-        let within = made-within most h in
-        let fuel : 8192 - made ≡ suc (8192 - (made + 1)) = omega arith in
-        let next : 4 * (made + 1) ≡ 4 * made + 4 = omega arith in
-        let calls = calls-next events (8192 - (made + 1)) (4 * made) (within .0) in
-        rw (lined, number, step, is, next)
-        (sym (put-then at (line (numberOf (recordStep p t (take 4 (drop (4 * made) events)) .answer))) _ output)
-        ∙ ap (λ (l : List ℕ). put at l output)
-        (sym (text-next p t (take 4 (drop (4 * made) events)) (callsIn (8192 - (made + 1)) (drop (4 * made + 4) events)))
-        ∙ ap (textOf p t) (sym (ap (λ (f : ℕ). callsIn f (drop (4 * made) events)) fuel ∙ calls)))
-        ∙ inv)
+  pub lines-end : length answers ≤ i → putOf at output ≡ whole
+  lines-end h = sym (put-none at output) ∙ ap (λ (l : List ℕ). put at (numberLines l) output) (sym (drop-of-length-le answers h)) ∙ inv
 
-    pub run-end : count ≤ made → (ending : EndingType.Ending) → ending ≡ endingOf (t .states)
-        → (o : Put) → o ≡ put at (wordOf ending) output → o ≡ whole
-    run-end h ending is o last =
-        let past : length events ≤ 4 * made = omega arith in
-        let none : textOf p t (callsIn (8192 - made) (drop (4 * made) events)) ≡ wordOf (endingOf (t .states)) =
-        ap (λ (l : List ℕ). textOf p t (callsIn (8192 - made) l)) (drop-of-length-le events past)
-        ∙ ap (textOf p t) (calls-end (8192 - made))
-        ∙ text-end p t in
-        last ∙ ap (λ (e : EndingType.Ending). put at (wordOf e) output) is ∙ ap (λ (l : List ℕ). put at l output) (sym none) ∙ inv
+module _ (events output : List ℕ) (at : ℕ) where
+  pub cut-none : length events % 4 ≡ 0 → putOf at output ≡ put at (cutLine events) output
+  unfolding cutLine
+  cut-none none = rw (eq-eqb _ _ none) (sym (put-none at output))
+
+  pub cut-put : (length events % 4 ≡ 0 → ⊥) → (o : Put) → o ≡ put at (line 7) output → o ≡ put at (cutLine events) output
+  unfolding cutLine
+  cut-put some o lined = rw (ne-eqb _ _ some) lined
+
+-- three texts, one after the other
+put-three : (a b c output : List ℕ) (o : Put) → o ≡ put 0 a output → (q : Put) → q ≡ put (o .end) b (o .buffer)
+    → (s : Put) → s ≡ put (q .end) c (q .buffer) → s ≡ put 0 (a ++ (b ++ c)) output
+put-three a b c output o one q two s three =
+    three
+    ∙ ap (λ (x : Put). put (x .end) c (x .buffer)) two
+    ∙ sym (put-then (o .end) b c (o .buffer))
+    ∙ ap (λ (x : Put). put (x .end) (b ++ c) (x .buffer)) one
+    ∙ sym (put-then 0 a (b ++ c) output)
+
+module _ (events given : List ℕ) (few : length events ≤ 32768) (room : length given ≡ 8192) where
+  is-list : isList (take (length events / 4 * 4) events) (take (length events / 4) given) ≡ true
+  is-list =
+      let e = length-take-le (length events / 4 * 4) events (omega arith) in
+      let a = length-take-le (length events / 4) given (omega arith) in
+      rw (e, a, eq-eqb (length events / 4 * 4 % 4) 0 (omega arith), eq-eqb (length events / 4) (length events / 4 * 4 / 4) (omega arith))
+
+  pub run-put : (p : Plan) (t : Tables) → recordJudged p t ≡ accepted tt → (output : List ℕ)
+      → (r : Run) → r ≡ recordRun p t (take (length events / 4 * 4) events) (take (length events / 4) given)
+      → (o : Put) → o ≡ put 0 (numberLines (r .answers)) output
+      → (q : Put) → q ≡ put (o .end) (cutLine events) (o .buffer)
+      → (ending : EndingType.Ending) → ending ≡ endingOf (r .tables .states)
+      → (s : Put) → s ≡ put (q .end) (wordOf ending) (q .buffer)
+      → s ≡ put 0 (textOf p t (callsIn 8192 events)) output
+  unfolding finishedRun
+  run-put p t ok output r ran o lined q cut ending is s word =
+      let list : List ℕ = take (length events / 4 * 4) events in
+      let done : r ≡ finishedRun p t list = ran ∙ sym (run-finished p t list (take (length events / 4) given) (sym ok) is-list (finishedRun p t list) refl) in
+      let calls : List RecordStep = singleCalls p t (eventsOf events) in
+      let same : singleCalls p t (eventsOf list) ≡ calls = ap (singleCalls p t) (events-whole events) in
+      let numbers : r .answers ≡ numbersOf calls = ap (λ (x : Run). x .answers) done ∙ ap numbersOf same in
+      let left : r .tables ≡ tablesLeft t calls = ap (λ (x : Run). x .tables) done ∙ ap (tablesLeft t) same in
+      let ended : ending ≡ endingOf (tablesLeft t calls .states) = is ∙ ap (λ (u : Tables). endingOf (u .states)) left in
+      put-three (numberLines (numbersOf calls)) (cutLine events) (wordOf (endingOf (tablesLeft t calls .states))) output
+      o (rw numbers at lined) q cut s (rw ended at word)
+      ∙ ap (λ (l : List ℕ). put 0 l output) (sym (text-whole p 8192 events few t ok))

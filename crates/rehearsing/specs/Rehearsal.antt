@@ -1,15 +1,16 @@
 -- What the rehearsal prints for an input (document 01, "The rehearsal").
 --     callsIn, freshTables     the events as calls, and the tables with so many slots in N and in each inbox
 --     linesOf, textOf          a line for each call of a list, and the word
+--     numberLines, cutLine     the lines from the answers' bytes, and that of a cut last event
 --     printedFor, rehearsed    what is printed
 --     rehearsal                what is printed, at the start of a lent buffer
 -- The plan and the events' bytes are those of rehearsal_input/specs, lines and words of rehearsal_text/specs. The laws are in Rehearsal/Laws.antt.
 -- Assumes nothing.
 pub mod Laws
-use Prim.Native.Nat.{ℕ, zero, suc, _*_}
+use Prim.Native.Nat.{ℕ, zero, suc, _*_, _%_}
 use mathlib.Core.Bool.{cond}
 use mathlib.Core.List.{List, [], _∷_, _++_}
-use lib.Dec.{ltb}
+use lib.Dec.{ltb, eqb}
 use lib.ListN.{length, take, drop, replicate}
 use Rattle.message.specs.declared.Plan.{Plan}
 use Rattle.message.specs.Outcome.{Outcome, accepted, refused, numberOf}
@@ -17,7 +18,7 @@ use Rattle.change.specs.declared.Sent.{Sent}
 use Rattle.ending.specs.Ending.{endingOf}
 use Rattle.slots.specs.Table.{slotSize}
 use Rattle.record.specs.Record.{Tables, tablesOf}
-use Rattle.safety.specs.Theorems.{Call, event, answers, tablesAfter}
+use Rattle.safety.specs.Lists.{Call, event, answers, tablesAfter}
 use Rattle.rehearsal_input.specs.Input.{planIn, eventsIn}
 use Rattle.rehearsal_text.specs.Text.{line, wordOf, Put, putOf}
 
@@ -39,6 +40,14 @@ linesOf (answer ∷ rest) = line (numberOf answer) ++ linesOf rest
 
 unfoldable pub textOf : Plan → Tables → List Call → List ℕ
 textOf p t calls = linesOf (answers p t calls) ++ wordOf (endingOf (tablesAfter p t calls .states))
+
+-- the same lines from the answers' bytes; "A cut last event prints 7"
+abbrev pub numberLines : List ℕ → List ℕ
+numberLines [] = []
+numberLines (number ∷ rest) = line number ++ numberLines rest
+
+unfoldable pub cutLine : List ℕ → List ℕ
+cutLine events = cond (eqb (length events % 4) 0) [] (line 7)
 
 -- "A bad or short plan prints only 1"; at most 8,192 events, on tables with 1,024 slots
 unfoldable pub printedFor : Outcome Plan → List ℕ → List ℕ

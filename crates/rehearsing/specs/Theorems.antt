@@ -18,7 +18,8 @@ use Rattle.message.specs.Plan.{isPlan}
 use Rattle.slots.specs.Table.{isTableLength}
 use Rattle.ending.specs.Ending.{endingOf}
 use Rattle.record.specs.Record.{Tables, zeroed, recordOpen}
-use Rattle.safety.specs.Theorems.{Fresh, Call, answers, tablesAfter, never-11}
+use Rattle.safety.specs.Lists.{Fresh, Call, answers, tablesAfter}
+use Rattle.safety.specs.Theorems.{never-11}
 use Rattle.rehearsal_input.specs.Input.{planOf, eventsIn}
 use Rattle.rehearsal_input.specs.Input.Laws.{planIn-short, planIn-bad, planIn-good, planIn-more}
 use Rattle.rehearsal_input.specs.Theorems.{rest-ignored as events-rest}

@@ -1,22 +1,24 @@
-// The rehearsal (document 01, "The rehearsal") as a function of its input: makes the events on a fresh record, and puts a line for each into a
-// lent buffer, 0 or the refusal; last one of three words. A plan that is bad or cut gives only 1.
+// The rehearsal (document 01, "The rehearsal") as a function of its input: makes the events on a fresh record, all whole ones by one list call,
+// and puts a line for each into a lent buffer, 0 or the refusal; last one of three words. A plan that is bad or cut gives only 1.
 //
-//     MAX_OUTPUT      the bytes of the longest output
-//     run_events      a call and a line for each event, and the word
-//     run             the record opened, on parts of tables that are long enough for every plan
-//     run_fresh       those tables
-//     rehearse        the rehearsal
+//     MAX_OUTPUT               the bytes of the longest output
+//     put_answers, put_cut     a line for each answer, and one for a cut last event
+//     run_events               the list call, the lines and the word
+//     run                      the record opened, on parts of tables that are long enough for every plan
+//     run_fresh                those tables
+//     rehearse                 the rehearsal
 //
-// Input and text are `rehearsal_input` and `rehearsal_text`, the calls `opening::open`, `record::step` and `ending::ending_of`. What is
+// Input and text are `rehearsal_input` and `rehearsal_text`, the calls `opening::open`, `batch::run` and `ending::ending_of`. What is
 // printed stands in specs/. `rehearse` has no `requires`.
 ghost use Prim.Native.Nat.{_≤_};
 ghost use mathlib.Core.Bool.{true};
 ghost use mathlib.Core.Path.{_≡_};
 ghost use lib.ListN.{length};
+ghost use Rattle.message.specs.Outcome.{accepted};
 ghost use Rattle.message.specs.Plan.{isPlan};
-ghost use Rattle.record.specs.Record.{tablesOf};
+ghost use Rattle.record.specs.Record.{tablesOf, recordJudged};
 ghost use Rattle.rehearsal_text.specs.Text.{putOf, put};
-ghost use Rattle.rehearsing.specs.Rehearsal.{callsIn, freshTables, textOf, rehearsal};
+ghost use Rattle.rehearsing.specs.Rehearsal.{callsIn, freshTables, textOf, numberLines, cutLine, rehearsal};
 use message::Plan;
 use rehearsal_input::PlanRead;
 
@@ -31,6 +33,11 @@ const VOTES_SIZE: usize = 336;
 const NETWORK_SIZE: usize = 8192;
 
 const INBOXES_SIZE: usize = 32768;
+
+// The bytes of an event, and an answer for each of the most events.
+const EVENT_SIZE: usize = 4;
+
+const ANSWERS_SIZE: usize = 8192;
 
 fn states_table() -> [u8; STATES_SIZE]
     ensures { λ r. ⌜ length r ≡ 16 ⌝ }
@@ -56,7 +63,36 @@ fn inboxes_table() -> [u8; INBOXES_SIZE]
     [0; INBOXES_SIZE]
 }
 
-// Makes each event on the record and puts its line, and last the word.
+fn answers_table() -> [u8; ANSWERS_SIZE]
+    ensures { λ r. ⌜ length r ≡ 8192 ⌝ }
+{
+    [0; ANSWERS_SIZE]
+}
+
+// Puts a line for each answer, from the start on: where they end.
+fn put_answers(output: &mut [u8], answers: &[u8]) -> usize
+    ensures { λ r. ⌜ putOf r (now (output .exit)) ≡ put 0 (numberLines (now (answers .entry))) (now (output .entry)) ⌝ }
+{
+    let mut at: usize = 0;
+    let mut i: usize = 0;
+    while i < answers.len() {
+        at = rehearsal_text::put_line(output, at, answers[i]);
+        i += 1;
+    }
+    at
+}
+
+// Puts 7 at a place if the last event is cut, and so is none: where it ends.
+fn put_cut(output: &mut [u8], at: usize, events: &[u8]) -> usize
+    ensures { λ r. ⌜ putOf r (now (output .exit)) ≡ put at (cutLine (now (events .entry))) (now (output .entry)) ⌝ }
+{
+    if events.len() % EVENT_SIZE == 0 {
+        return at;
+    }
+    rehearsal_text::put_line(output, at, 7)
+}
+
+// Makes the events on a sound record, and puts their lines, and last the word.
 fn run_events(
     plan: Plan,
     states: &mut [u8],
@@ -64,23 +100,23 @@ fn run_events(
     network: &mut [u8],
     inboxes: &mut [u8],
     events: &[u8],
+    answers: &mut [u8],
     output: &mut [u8],
 ) -> usize
-    requires { ⌜ length (now events) ≤ 32768 ⌝ }
+    requires { ⌜ recordJudged plan (tablesOf (now states) (now votes) (now network) (now inboxes)) ≡ accepted tt ⌝ }
+    requires { ⌜ (length (now events) ≤ 32768) × (length (now answers) ≡ 8192) ⌝ }
     ensures { λ r. ⌜ putOf r (now (output .exit)) ≡ put 0 (textOf plan
         (tablesOf (now (states .entry)) (now (votes .entry)) (now (network .entry)) (now (inboxes .entry)))
         (callsIn 8192 (now (events .entry)))) (now (output .entry)) ⌝ }
 {
-    let count = rehearsal_input::event_count(events);
-    let mut at: usize = 0;
-    let mut made: usize = 0;
-    while made < count {
-        let event = rehearsal_input::event_at(events, made);
-        let answer = record::step(plan, states, votes, network, inboxes, event);
-        at = rehearsal_text::put_line(output, at, change::answer_number(answer));
-        made += 1;
-    }
-    rehearsal_text::put_ending(output, at, ending::ending_of(states))
+    let count = events.len() / EVENT_SIZE;
+    let end = count * EVENT_SIZE;
+    let whole = &events[..end];
+    let answered = &mut answers[..count];
+    batch::run(plan, states, votes, network, inboxes, whole, answered);
+    let lines_end = put_answers(output, answered);
+    let cut_end = put_cut(output, lines_end, events);
+    rehearsal_text::put_ending(output, cut_end, ending::ending_of(states))
 }
 
 // Opens the record on parts of the tables, and makes the events.
@@ -91,11 +127,12 @@ fn run(
     network: &mut [u8],
     inboxes: &mut [u8],
     events: &[u8],
+    answers: &mut [u8],
     output: &mut [u8],
 ) -> usize
     requires { ⌜ isPlan plan ≡ true ⌝ }
     requires { ⌜ (length (now states) ≡ 16) × (length (now votes) ≡ 336) × (length (now network) ≡ 8192) × (length (now inboxes) ≡ 32768) ⌝ }
-    requires { ⌜ length (now events) ≤ 32768 ⌝ }
+    requires { ⌜ (length (now events) ≤ 32768) × (length (now answers) ≡ 8192) ⌝ }
     ensures { λ r. ⌜ putOf r (now (output .exit)) ≡ put 0 (textOf plan (freshTables 1024 plan)
         (callsIn 8192 (now (events .entry)))) (now (output .entry)) ⌝ }
 {
@@ -113,6 +150,7 @@ fn run(
         network,
         inboxes_part,
         events,
+        answers,
         output,
     )
 }
@@ -128,6 +166,7 @@ fn run_fresh(plan: Plan, events: &[u8], output: &mut [u8]) -> usize
     let mut votes = votes_table();
     let mut network = network_table();
     let mut inboxes = inboxes_table();
+    let mut answers = answers_table();
     run(
         plan,
         &mut states,
@@ -135,6 +174,7 @@ fn run_fresh(plan: Plan, events: &[u8], output: &mut [u8]) -> usize
         &mut network,
         &mut inboxes,
         events,
+        &mut answers,
         output,
     )
 }

@@ -3,7 +3,7 @@
 --     Published              one event call: an accepted one is an action of PCNext, a receipt apart; a receipt and a refused call leave W, Q and N
 --     record-published       every event call after every list of calls
 --     action-published       and every step that `Action` allows an accepted event: demand 2's actions are those of the module
---     stateAt                the state at time n: what the first n calls of a list leave
+--     stateAt                the state at time n: what the first n single calls of a list leave
 --     record-behaviour       it is a behaviour of PCSpec
 --     record-commits         so W is one of TCSpec
 --     record-one-decision    and N never holds both Commit and Abort
@@ -30,7 +30,9 @@ use Rattle.conformance.specs.Record.{recordState}
 use Rattle.conformance.specs.Action.{Action}
 use Rattle.safety.specs.Grounds.{sentIn, Unchanged}
 use Rattle.safety.specs.Grounds.Steps.{Used, used-zeros, used-event, published-event, action-event, kept-event}
-use Rattle.safety.specs.Theorems.{Fresh, Call, event, tablesAfter, fresh-initial}
+use Rattle.batch.specs.Run.{singleCalls, tablesLeft}
+use Rattle.safety.specs.Lists.{Fresh, Call, counted, made, tablesAfter}
+use Rattle.safety.specs.Theorems.{fresh-initial}
 
 -- the event call e on the tables t, as module PaxosCommit sees it
 pub record Published (p : Plan) (t : Tables) (e : List ℕ) : Type 0 where
@@ -41,9 +43,12 @@ pub record Published (p : Plan) (t : Tables) (e : List ℕ) : Type 0 where
   pub receipt : kindOf e ≡ 4 → Unchanged t (recordStep p t e .tables)
   pub refusal : (k : ℕ) → recordStep p t e .answer ≡ refused k → Unchanged t (recordStep p t e .tables)
 
--- the state at time n: what the first n calls leave, and after the last call what that left
+-- the tables at time n: what the first n single calls leave, and after the last call what that left; and the state that they hold
+abbrev pub tablesAt : Plan → Tables → List Call → ℕ → Tables
+tablesAt p t calls n = tablesLeft t (take n (made p t calls))
+
 abbrev pub stateAt : Plan → Tables → List Call → ℕ → State
-stateAt p t calls n = recordState p (tablesAfter p t (take n calls))
+stateAt p t calls n = recordState p (tablesAt p t calls n)
 
 module _ (p : Plan) where
   published : (t : Tables) (e : List ℕ) → Used p t → Published p t e
@@ -58,9 +63,9 @@ module _ (p : Plan) where
       stays kind (accepted sent) is = ⊎-elim (λ h. absurd (h .0 kind)) (λ h. h .1) (published-event p t e u sent is)
       stays kind (refused k) is = kept-event p t e k is
 
-  used-after : (t : Tables) → Used p t → (calls : List Call) → Used p (tablesAfter p t calls)
+  used-after : (t : Tables) → Used p t → (es : List (List ℕ)) → Used p (tablesLeft t (singleCalls p t es))
   used-after t u [] = u
-  used-after t u (event e ∷ cs) = used-after (recordStep p t e .tables) (used-event p t e u) cs
+  used-after t u (e ∷ es) = used-after (recordStep p t e .tables) (used-event p t e u) es
 
   abbrev Step : Tables → Tables → Type 0
   Step t t′ = PCStep (isRM p) (isAcceptor p) (isMajoritySet p) (recordState p t) (recordState p t′)
@@ -76,37 +81,38 @@ module _ (p : Plan) where
       go (accepted sent) is = ⊎-elim (λ h. inl (h .1)) (λ h. step-unchanged t (recordStep p t e .tables) (h .1)) (published-event p t e u sent is)
       go (refused k) is = step-unchanged t (recordStep p t e .tables) (kept-event p t e k is)
 
-  steps : (t : Tables) → Used p t → (calls : List Call) (n : ℕ) → Step (tablesAfter p t (take n calls)) (tablesAfter p t (take (suc n) calls))
+  steps : (t : Tables) → Used p t → (es : List (List ℕ)) (n : ℕ)
+      → Step (tablesLeft t (take n (singleCalls p t es))) (tablesLeft t (take (suc n) (singleCalls p t es)))
   steps t u [] zero = step-unchanged t t (refl, refl, refl)
   steps t u [] (suc n) = step-unchanged t t (refl, refl, refl)
-  steps t u (event e ∷ cs) zero = step-event t e u
-  steps t u (event e ∷ cs) (suc n) = steps (recordStep p t e .tables) (used-event p t e u) cs n
+  steps t u (e ∷ es) zero = step-event t e u
+  steps t u (e ∷ es) (suc n) = steps (recordStep p t e .tables) (used-event p t e u) es n
 
 module _ (p : Plan) (t : Tables) (fresh : Fresh t) (calls : List Call) where
   used-fresh : Used p t
   used-fresh = used-zeros p t (fresh .0) (fresh .1) (fresh .2) (fresh .3)
 
   pub record-published : (e : List ℕ) → Published p (tablesAfter p t calls) e
-  record-published e = published p (tablesAfter p t calls) e (used-after p t used-fresh calls)
+  record-published e = published p (tablesAfter p t calls) e (used-after p t used-fresh (counted p t calls))
 
   pub action-published : (e : List ℕ) → Accepted (recordStep p (tablesAfter p t calls) e .answer)
       → (s′ : State) → Action p (tablesAfter p t calls) e (recordState p (tablesAfter p t calls)) s′
       → PCStep (isRM p) (isAcceptor p) (isMajoritySet p) (recordState p (tablesAfter p t calls)) s′
   action-published e (sent, is) s′ a =
       ⊎-elim (λ (other, next). inl next) (λ (kind, row, states, msgs). inr (row, states, msgs))
-      (action-event p (tablesAfter p t calls) e (used-after p t used-fresh calls) sent is s′ a)
+      (action-event p (tablesAfter p t calls) e (used-after p t used-fresh (counted p t calls)) sent is s′ a)
 
   pub record-behaviour : PCSpec (isRM p) (isAcceptor p) (isMajoritySet p) (stateAt p t calls)
-  record-behaviour = (fresh-initial p t fresh, steps p t used-fresh calls)
+  record-behaviour = (fresh-initial p t fresh, steps p t used-fresh (counted p t calls))
 
-  pub record-commits : TCSpec (isRM p) (λ n. rmStateOf (tablesAfter p t (take n calls) .states))
+  pub record-commits : TCSpec (isRM p) (λ n. rmStateOf (tablesAt p t calls n .states))
   record-commits = paxos-commit-implements (isRM p) (isAcceptor p) (isMajoritySet p) (majorities-meet p .1) (stateAt p t calls) record-behaviour
 
-  pub record-one-decision : (n : ℕ) → sentIn p (tablesAfter p t (take n calls)) Commit → sentIn p (tablesAfter p t (take n calls)) Abort → ⊥
+  pub record-one-decision : (n : ℕ) → sentIn p (tablesAt p t calls n) Commit → sentIn p (tablesAt p t calls n) Abort → ⊥
   record-one-decision = one-decision (isRM p) (isAcceptor p) (isMajoritySet p) (majorities-meet p .1) (stateAt p t calls) record-behaviour
 
 module _ (p : Plan) (t : Tables) where
-  pub state-at : (calls : List Call) (n : ℕ) → stateAt p t calls n ≡ recordState p (tablesAfter p t (take n calls))
+  pub state-at : (calls : List Call) (n : ℕ) → stateAt p t calls n ≡ recordState p (tablesLeft t (take n (made p t calls)))
   state-at calls n = refl
 
   pub published-means : (e : List ℕ) → Published p t e

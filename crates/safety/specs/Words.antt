@@ -20,7 +20,8 @@ use Rattle.message.specs.Outcome.{refused}
 use Rattle.tcommit.specs.TCommit.{TCNext}
 use Rattle.record.specs.Record.{Tables, RecordStep}
 use Rattle.matching.specs.Reading.{isRM, rmStateOf}
-use Rattle.safety.specs.Theorems.{Fresh, Call, AfterEach, Safe, demand-3}
+use Rattle.safety.specs.Lists.{Fresh, Call, made, AfterEach, Safe}
+use Rattle.safety.specs.Theorems.{demand-3}
 use Rattle.safety.specs.Words.Laws.{changed, member-at, each-of-each}
 
 abbrev pub OneStep : ℕ → List ℕ → List ℕ → Type 0
@@ -63,4 +64,4 @@ pub words-mean : (p : Plan) (t : Tables) (r : RecordStep) → SafeInWords p t r
 words-mean p t r h = h
 
 pub demand-3-words : (p : Plan) (t : Tables) → Fresh t → (calls : List Call) → AfterEach p (SafeInWords p) t calls
-demand-3-words p t fresh calls = each-of-each p (Safe p) (SafeInWords p) (safe-words p) t calls (demand-3 p t fresh calls)
+demand-3-words p t fresh calls = each-of-each (Safe p) (SafeInWords p) (safe-words p) t (made p t calls) (demand-3 p t fresh calls)

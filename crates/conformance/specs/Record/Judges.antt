@@ -1,18 +1,20 @@
 -- The judgements of the plan and the tables answer the first of their rows that applies.
 --     record-judges, rm-judges, acceptor-judges, leader-judges
+--     record-judges-then     so where a call judges more after them
 -- Assumes nothing.
 use Prim.Native.Nat.{ℕ, _*_}
-use mathlib.Core.Bool.{Bool, false, not}
+use mathlib.Core.Bool.{Bool, true, false, not}
 use mathlib.Core.List.{List}
 use mathlib.Core.Logic.{_⊎_, inl, inr, ⊎-elim}
-use mathlib.Core.Path.{_≡_}
+use mathlib.Core.Path.{_≡_, refl}
 use lib.Dec.{eqb}
 use lib.ListN.{length}
 use borrow.Author.Tests.{eqb-true, eqb-false, not-true, not-false}
 use Rattle.message.specs.declared.Plan.{Plan}
 use Rattle.message.specs.Plan.{isPlan}
-use Rattle.message.specs.Rows.{end}
-use Rattle.message.specs.Rows.Laws.{Ruled, ruled-row, ruled-both, ruled-end}
+use Rattle.message.specs.Outcome.{Outcome, accepted, refused, andThen, refuseIf}
+use Rattle.message.specs.Rows.{Rows, end, row, here}
+use Rattle.message.specs.Rows.Laws.{Ruled, ruled-row, ruled-both, ruled-skip, ruled-end}
 use Rattle.slots.specs.Table.{isTableLength, isTable}
 use Rattle.inbox.specs.Inbox.Quantifiers.{forAll-all, forAll-fails}
 use Rattle.rm.specs.Rm.{areStates, rmJudged}
@@ -27,17 +29,35 @@ use Rattle.conformance.specs.Record.Ruled.{no-false, wrong-lengths, righ
 clash : {b : Bool} → not b ≡ false → b ≡ false → ⊥
 clash {b} h = no-false (not-false b h)
 
-pub record-judges : (p : Plan) (t : Tables) → Ruled (recordJudged p t) (tableRows p t end)
-unfolding recordJudged areInboxes
-record-judges p t =
-    ruled-row (not (isPlan p)) 1 _ _ _ (not-true _) clash (λ _.
-    ruled-row (not (areLengths p t)) 2 _ _ _ (λ h. wrong-lengths p t (not-true _ h)) (λ h. right-lengths p t (not-false _ h)) (λ _.
-    ruled-row (not (areStates (t .states))) 3 _ _ _ (not-true _) clash (λ _.
-    ruled-row (not (areVotes (t .votes))) 4 _ _ _ (not-true _) clash (λ _.
-    ruled-row (not (isTable p (t .network))) 5 _ _ _ (not-true _) clash (λ _.
-    ruled-row (not (areInboxes p (t .inboxes))) 6 _ _ _ (λ h. forAll-fails _ (p .leaders) (not-true _ h))
-    (λ f h. no-false (forAll-all _ (p .leaders) (not-false _ f) (h .0) (h .1)) (h .2)) (λ _.
-    ruled-end (tt {0})))))))
+then-accepted : (o : Outcome (Unit {0})) → andThen o (λ _. accepted (tt {0})) ≡ o
+unfolding andThen
+then-accepted (accepted a) = refl
+then-accepted (refused number) = refl
+
+-- a row, and what is judged after it
+ruled-then : {A : Type 0} (b : Bool) (k : ℕ) (T : Type 0) (rows : Rows) (rest : Outcome (Unit {0})) (after : Outcome A)
+    → (b ≡ true → T) → (b ≡ false → T → ⊥) → Ruled (andThen rest (λ _. after)) rows → Ruled (andThen (refuseIf b k rest) (λ _. after)) (row k T rows)
+unfolding Ruled refuseIf andThen
+ruled-then true k T rows rest after holds fails next = here (refl, (holds refl, tt))
+ruled-then false k T rows rest after holds fails next = ruled-skip k _ rows (λ h. fails refl (h .0)) (andThen rest (λ _. after)) next
+
+module _ (p : Plan) (t : Tables) where
+  -- the plan and the four tables, and then the rows of a call
+  pub record-judges-then : {A : Type 0} (rows : Rows) (after : Outcome A) → Ruled after rows
+      → Ruled (andThen (recordJudged p t) (λ _. after)) (tableRows p t rows)
+  unfolding recordJudged areInboxes andThen
+  record-judges-then rows after next =
+      ruled-then (not (isPlan p)) 1 _ _ _ after (not-true _) clash
+      (ruled-then (not (areLengths p t)) 2 _ _ _ after (λ h. wrong-lengths p t (not-true _ h)) (λ h. right-lengths p t (not-false _ h))
+      (ruled-then (not (areStates (t .states))) 3 _ _ _ after (not-true _) clash
+      (ruled-then (not (areVotes (t .votes))) 4 _ _ _ after (not-true _) clash
+      (ruled-then (not (isTable p (t .network))) 5 _ _ _ after (not-true _) clash
+      (ruled-then (not (areInboxes p (t .inboxes))) 6 _ _ (accepted tt) after (λ h. forAll-fails _ (p .leaders) (not-true _ h))
+      (λ f h. no-false (forAll-all _ (p .leaders) (not-false _ f) (h .0) (h .1)) (h .2))
+      next)))))
+
+  pub record-judges : Ruled (recordJudged p t) (tableRows p t end)
+  record-judges = rw (then-accepted (recordJudged p t)) at (record-judges-then end (accepted tt) (ruled-end (tt {0})))
 
 module _ (p : Plan) (table network : List ℕ) where
   pub rm-judges : Ruled (rmJudged p table network) (rmTableRows p table network)

@@ -1,7 +1,7 @@
 -- Another order's message as a slice and in a table, by the rows that apply.
 --     slice-row, slice-number               18
 --     bad-table                             a table with such a message is damaged
---     network-row, inbox-row                5 and 6 of the event call
+--     network-row, inbox-row                5 and 6 of the event call; list-network-row, list-inbox-row of the list call
 --     rm-row, acceptor-row, leader-row, leader-inbox-row     and of the roles' own calls
 -- Assumes nothing.
 use Prim.Native.Nat.{ℕ, _<_}
@@ -27,6 +27,7 @@ use Rattle.matching.specs.Rm.{rmRows}
 use Rattle.matching.specs.Acceptor.{acceptorRows}
 use Rattle.matching.specs.Leader.{leaderRows}
 use Rattle.conformance.specs.Record.{recordRows}
+use Rattle.batch.specs.Rows.{runRows}
 
 module _ (p q : Plan) (differs : p .order ≡ q .order → ⊥) (m : Message) (given : writeMessage q m .number ≡ 0) where
   pub slice-row : Applies (readerRows p (form (writeMessage q m))) 18
@@ -49,6 +50,14 @@ module _ (p q : Plan) (differs : p .order ≡ q .order → ⊥) (m : Message) (g
 
     pub inbox-row : (l : ℕ) → l < p .leaders → List·Memᴰ (writeMessage q m .bytes) (slots (inboxOf p (t .inboxes) l)) → Applies (recordRows p t e) 6
     inbox-row l own there = below (below (below (below (below (here (refl, ((l, own, bad-table _ there), tt)))))))
+
+  module _ (t : Tables) (events answers : List ℕ) where
+    pub list-network-row : List·Memᴰ (writeMessage q m .bytes) (slots (t .network)) → Applies (runRows p t events answers) 5
+    list-network-row there = below (below (below (below (here (refl, (bad-table (t .network) there, tt))))))
+
+    pub list-inbox-row : (l : ℕ) → l < p .leaders → List·Memᴰ (writeMessage q m .bytes) (slots (inboxOf p (t .inboxes) l))
+        → Applies (runRows p t events answers) 6
+    list-inbox-row l own there = below (below (below (below (below (here (refl, ((l, own, bad-table _ there), tt)))))))
 
   module _ (table network e : List ℕ) (s : State) where
     pub rm-row : List·Memᴰ (writeMessage q m .bytes) (slots network) → Applies (rmRows p table network e s) 5

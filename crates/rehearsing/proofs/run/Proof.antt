@@ -1,7 +1,8 @@
--- `rehearsing::run` meets its contract: each part has the length that the plan asks for, so opening accepts. Assumes nothing.
+-- `rehearsing::run` meets its contract: each part has the length that the plan asks for, so opening accepts, and leaves a sound record.
+-- Assumes nothing.
 use Prim.Native.Nat.{_*_, _≤_}
 use Rattle.message.specs.Plan.Laws.{PlanBounds, plan-bounds}
-use Rattle.rehearsing.proofs.Rehearsing.{votes-within, run-opened}
+use Rattle.rehearsing.proofs.Rehearsing.{votes-within, opened-judged, run-opened}
 use borrow.Author.Needs.{needs}
 use lib.ListN.{length-take}
 use native.Mathlib.Omega.{arith}
@@ -10,7 +11,7 @@ use Rattle.rehearsing.proofs.run.Tie as tie
 
 -- where the plan's counts are known: the entry, and what it says of the counts
 abbrev entered : tie.After-struct-known3 → tie.Start
-entered c = c .before .before .before .before .before .before .before .before .before
+entered c = c .before .before .before .before .before .before .before .before .before .before
 
 abbrev bounds : (c : tie.After-struct-known3) → PlanBounds (entered c .args .plan)
 bounds c = plan-bounds _ (entered c .pre .0)
@@ -19,7 +20,7 @@ abbrev votes : (c : tie.After-struct-known3) → entered c .args .plan .rms * en
 votes c = votes-within _ (entered c .pre .0)
 
 -- from the events back to opening, and from opening to the plan's counts
-abbrev opened : tie.After-run-events → tie.After-open
+abbrev opened : tie.After-run-events-arg3 → tie.After-open
 opened c = c .before .before .before .before .before .before .before .before .before .before .before
 
 abbrev parted : tie.After-open → tie.After-struct-known3
@@ -68,7 +69,10 @@ open-requires : tie.Need-open-requires
 open-requires c κs = tt
 
 run-events-requires : tie.Need-run-events-requires
-run-events-requires c κs = search needs
+run-events-requires c κs =
+    let at-open = opened c in
+    let at-start = entered (parted at-open) in
+    (opened-judged _ (at-start .pre .0) _ _ _ _ (at-start .pre .1 .0) _ (at-open .«open» .ensures), at-start .pre .1 .1)
 
 same-length : tie.Need-same-length
 same-length c = search needs
@@ -85,10 +89,13 @@ same-length-4 c = search needs
 same-length-5 : tie.Need-same-length-5
 same-length-5 c = search needs
 
+same-length-6 : tie.Need-same-length-6
+same-length-6 c = search needs
+
 returns : tie.Need-returns
 returns c =
-    let at-run = c .before .before .before .before .before .before .before .before .before .before in
-    let at-open = opened at-run in
+    let at-run = c .before .before .before .before .before .before .before .before .before .before .before .before in
+    let at-open = opened (at-run .before) in
     let at-start = entered (parted at-open) in
     run-opened _ (at-start .pre .0) _ _ _ _ (at-start .pre .1 .0) _ (at-open .«open» .ensures) _ _ _ (at-run .run-events .ensures)
 
@@ -116,4 +123,5 @@ run-spec =
     same-length-3
     same-length-4
     same-length-5
+    same-length-6
     returns)

@@ -15,7 +15,7 @@ use Rattle.tcommit.specs.TCommit.{except}
 use Rattle.tcommit.specs.TCommit.Laws.{except-cases, except-here}
 use Rattle.record.specs.Record.{Tables, RecordStep}
 use Rattle.matching.specs.Reading.{rmStateOf}
-use Rattle.safety.specs.Theorems.{Call, made, AfterEach}
+use Rattle.safety.specs.Lists.{Each}
 
 -- rows of one length, where weight i alone changes, and to no 0
 module _ (W W′ : List ℕ) (size : length W′ ≡ length W) (i v : ℕ) (some : 0 < v) (e : rmStateOf W′ ≡ except (rmStateOf W) i v) where
@@ -43,7 +43,7 @@ member-at (x ∷ W) zero v some e = List·Memᴰ·head (sym e)
 member-at (x ∷ W) (suc i) v some e = List·Memᴰ·tail (member-at W i v some e)
 
 -- what holds of each call implies what follows from it of each call
-pub each-of-each : (p : Plan) (P Q : Tables → RecordStep → Type 0) → ((t : Tables) (r : RecordStep) → P t r → Q t r)
-    → (t : Tables) (calls : List Call) → AfterEach p P t calls → AfterEach p Q t calls
-each-of-each p P Q next t [] h = tt
-each-of-each p P Q next t (c ∷ cs) h = (next t (made p t c) (h .0), each-of-each p P Q next (made p t c .tables) cs (h .1))
+pub each-of-each : (P Q : Tables → RecordStep → Type 0) → ((t : Tables) (r : RecordStep) → P t r → Q t r)
+    → (t : Tables) (steps : List RecordStep) → Each P t steps → Each Q t steps
+each-of-each P Q next t [] h = tt
+each-of-each P Q next t (s ∷ ss) h = (next t s (h .0), each-of-each P Q next (s .tables) ss (h .1))

@@ -1,0 +1,3 @@
+-- Running a list.
+--     Running      after some of its events
+pub mod Running

@@ -1,0 +1,100 @@
+-- Laws of the list call's definition.
+--     is-list                        row 19 in numbers: a list has four bytes for each answer
+--     events-at                      a list from event i on: that event, then the list from the next one on
+--     calls-append, left-append      the single calls of two lists of events, and the tables that they leave
+--     events-append                  the events of two lists of whole events, one after the other
+--     answer-judged                  what the call answers
+--     run-whole, run-bad             on a sound record and a list; on a record that is not sound
+--     run-accepted, run-refused      the two cases of the call
+-- Assumes nothing.
+use Prim.Native.Nat.{ℕ, zero, suc, _+_, _*_, _/_, _%_, _≤_}
+use mathlib.Core.Bool.{true}
+use mathlib.Core.List.{List, [], _∷_, _++_}
+use mathlib.Core.Path.{_≡_, refl, sym, _∙_, ap}
+use native.Mathlib.Omega.{arith}
+use lib.Dec.{eqb}
+use lib.ListN.{length, take, drop, length-drop}
+use lib.Seq.{drop-drop}
+use borrow.Author.Tests.{eqb-true, eq-eqb}
+use Rattle.message.specs.Outcome.Laws.{accepted-not-refused, both}
+use Rattle.message.specs.declared.Plan.{Plan}
+use Rattle.message.specs.Outcome.{Outcome, accepted, refused, andThen, refuseIf}
+use Rattle.record.specs.Record.{Tables, RecordStep, recordJudged, recordStep}
+use Rattle.batch.specs.Run.{eventsOf, singleCalls, tablesLeft, Run, isList, runJudged, finishedRun, settledRun, recordRun}
+
+pub is-list : (events answers : List ℕ) → isList events answers ≡ true → length events ≡ 4 * length answers
+is-list events answers is =
+    let parts = both (eqb (length events % 4) 0) (eqb (length answers) (length events / 4)) is in
+    let cut = eqb-true (length events % 4) 0 (parts .0) in
+    let each = eqb-true (length answers) (length events / 4) (parts .1) in
+    omega arith
+
+events-first : (bytes : List ℕ) → 4 ≤ length bytes → eventsOf bytes ≡ take 4 bytes ∷ eventsOf (drop 4 bytes)
+events-first (a ∷ b ∷ c ∷ d ∷ rest) h = refl
+events-first [] h = absurd (omega (arith, h))
+events-first (a ∷ []) h = absurd (omega (arith, h))
+events-first (a ∷ b ∷ []) h = absurd (omega (arith, h))
+events-first (a ∷ b ∷ c ∷ []) h = absurd (omega (arith, h))
+
+pub events-at : (bytes : List ℕ) (i : ℕ) → i * 4 + 4 ≤ length bytes
+    → eventsOf (drop (i * 4) bytes) ≡ take 4 (drop (i * 4) bytes) ∷ eventsOf (drop ((i + 1) * 4) bytes)
+events-at bytes i h =
+    let left : 4 ≤ length (drop (i * 4) bytes) = rw (length-drop (i * 4) bytes) (omega (arith, h)) in
+    let next : i * 4 + 4 ≡ (i + 1) * 4 = omega arith in
+    events-first (drop (i * 4) bytes) left ∙ ap (λ (rest : List ℕ). take 4 (drop (i * 4) bytes) ∷ eventsOf rest) (drop-drop 4 (i * 4) bytes ∙ ap (λ (n : ℕ). drop n bytes) next)
+
+pub events-append : (n : ℕ) (first second : List ℕ) → length first ≡ 4 * n → eventsOf (first ++ second) ≡ eventsOf first ++ eventsOf second
+events-append zero [] second h = refl
+events-append (suc n) (a ∷ b ∷ c ∷ d ∷ rest) second h =
+    ap (λ (es : List (List ℕ)). (a ∷ b ∷ c ∷ d ∷ []) ∷ es) (events-append n rest second (omega (arith, h)))
+events-append zero (a ∷ rest) second h = absurd (omega (arith, h))
+events-append (suc n) [] second h = absurd (omega (arith, h))
+events-append (suc n) (a ∷ []) second h = absurd (omega (arith, h))
+events-append (suc n) (a ∷ b ∷ []) second h = absurd (omega (arith, h))
+events-append (suc n) (a ∷ b ∷ c ∷ []) second h = absurd (omega (arith, h))
+
+pub calls-append : (p : Plan) (t : Tables) (es fs : List (List ℕ))
+    → singleCalls p t (es ++ fs) ≡ singleCalls p t es ++ singleCalls p (tablesLeft t (singleCalls p t es)) fs
+calls-append p t [] fs = refl
+calls-append p t (e ∷ es) fs = ap (λ (ss : List RecordStep). recordStep p t e ∷ ss) (calls-append p (recordStep p t e .tables) es fs)
+
+pub left-append : (t : Tables) (a b : List RecordStep) → tablesLeft t (a ++ b) ≡ tablesLeft (tablesLeft t a) b
+left-append t [] b = refl
+left-append t (s ∷ ss) b = left-append (s .tables) ss b
+
+module _ (p : Plan) (t : Tables) (events answers : List ℕ) where
+  by-cases : (o : Outcome (Unit {0}))
+      → ((settledRun (finishedRun p t events) t answers o .answer ≡ accepted tt) → settledRun (finishedRun p t events) t answers o ≡ finishedRun p t events)
+      × ((k : ℕ) → settledRun (finishedRun p t events) t answers o .answer ≡ refused k
+      → settledRun (finishedRun p t events) t answers o ≡ record { answer = refused k; tables = t; answers = answers })
+  unfolding finishedRun
+  by-cases (accepted a) = (λ h. refl, λ k h. absurd (accepted-not-refused (sym h)))
+  by-cases (refused number) = (λ h. absurd (accepted-not-refused h), λ k h. ap (λ (o : Outcome (Unit {0})). record { answer = o; tables = t; answers = answers }) h)
+
+  pub answer-judged : recordRun p t events answers .answer ≡ runJudged p t events answers
+  unfolding recordRun finishedRun
+  answer-judged = go (runJudged p t events answers)
+    where
+      go : (o : Outcome (Unit {0})) → settledRun (finishedRun p t events) t answers o .answer ≡ o
+      go (accepted u) = refl
+      go (refused number) = refl
+
+  pub run-accepted : recordRun p t events answers .answer ≡ accepted tt → recordRun p t events answers ≡ finishedRun p t events
+  unfolding recordRun
+  run-accepted = by-cases (runJudged p t events answers) .0
+
+  pub run-refused : (k : ℕ) → recordRun p t events answers .answer ≡ refused k
+      → recordRun p t events answers ≡ record { answer = refused k; tables = t; answers = answers }
+  unfolding recordRun
+  run-refused = by-cases (runJudged p t events answers) .1
+
+  pub run-whole : recordJudged p t ≡ accepted tt → length events ≡ 4 * length answers → recordRun p t events answers ≡ finishedRun p t events
+  unfolding recordRun runJudged andThen refuseIf
+  run-whole ok size =
+      let cut : length events % 4 ≡ 0 = omega arith in
+      let each : length answers ≡ length events / 4 = omega arith in
+      rw (ok, eq-eqb _ _ cut, eq-eqb _ _ each)
+
+  pub run-bad : (k : ℕ) → recordJudged p t ≡ refused k → recordRun p t events answers ≡ record { answer = refused k; tables = t; answers = answers }
+  unfolding recordRun runJudged andThen
+  run-bad k h = rw h

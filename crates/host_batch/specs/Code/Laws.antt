@@ -1,0 +1,25 @@
+-- A list call whose answer became a number.
+--     run-coded     the number is its answer's
+--     run-kept      where it is not 0, tables and answers are as they were
+-- Assumes nothing.
+use Prim.Native.Nat.{ℕ}
+use mathlib.Core.List.{List}
+use mathlib.Core.Path.{_≡_, refl, _∙_, ap}
+use Rattle.message.specs.declared.Plan.{Plan}
+use Rattle.message.specs.Outcome.{Outcome, accepted, refused, numberOf}
+use Rattle.record.specs.Record.{Tables}
+use Rattle.batch.specs.Run.{Run, runJudged, finishedRun, settledRun, recordRun}
+use Rattle.host_batch.specs.Code.{hostRun, hostRunOf}
+
+pub run-coded : {r s : Run} → r ≡ s → {number : ℕ} → number ≡ numberOf (r .answer) → hostRun number (r .tables) (r .answers) ≡ hostRunOf s
+run-coded {r} e h = ap (λ (k : ℕ). hostRun k (r .tables) (r .answers)) h ∙ ap hostRunOf e
+
+pub run-kept : (p : Plan) (t : Tables) (events answers : List ℕ)
+    → (hostRunOf (recordRun p t events answers) .number ≡ 0 → ⊥)
+    → hostRunOf (recordRun p t events answers) ≡ hostRun (hostRunOf (recordRun p t events answers) .number) t answers
+unfolding recordRun finishedRun
+run-kept p t events answers = settled (runJudged p t events answers)
+  where
+    settled : (o : Outcome (Unit {0})) → let r = hostRunOf (settledRun (finishedRun p t events) t answers o) in (r .number ≡ 0 → ⊥) → r ≡ hostRun (r .number) t answers
+    settled (accepted a) n = absurd (n refl)
+    settled (refused number) n = refl
