@@ -1,9 +1,9 @@
 /*
- * All calls in one program: opens a record, runs document 01's example on it, feeds it junk, then runs an order with a
- * host for each role, which share nothing but the messages that they send each other; then the same order on tables
- * that are too small, where most calls are refused; at last the writer, deliveries, and events and refusals by name.
- * Messages of another order come in between, and are refused. It prints what each call answered; hosts/test compares
- * that with host.stdout. docs/HOSTS.md has the command that builds it.
+ * All calls in one program: opens a record, runs document 01's example on it, feeds it junk, hands it a backlog as one
+ * list, then runs an order with a host for each role, which share nothing but the messages that they send each other;
+ * then the same order on tables that are too small, where most calls are refused; at last the writer, deliveries, and
+ * events and refusals by name. Messages of another order come in between, and are refused. It prints what each call
+ * answered; hosts/test compares that with host.stdout. docs/HOSTS.md has the command that builds it.
  */
 #include "paxos_commit.h"
 
@@ -40,6 +40,14 @@ static void show(const char *name, const uint8_t *bytes, size_t len) {
     for (size_t i = 0; i < len; i++)
         printf(" %02X", bytes[i]);
     printf("\n");
+}
+
+/* Zeros, of exactly this length. No pointer that is lent is null, also with length 0. */
+static uint8_t *zeros(size_t len) {
+    uint8_t *bytes = calloc(len == 0 ? 1 : len, 1);
+    if (bytes == NULL)
+        exit(1);
+    return bytes;
 }
 
 /* ---- the record, all roles on four tables ---- */
@@ -147,6 +155,109 @@ static void junk(void) {
                                                        network, 17, inboxes, sizeof inboxes, prepare, 4));
 }
 
+/* ---- a backlog: events in one list, a byte for the answer of each ---- */
+
+static uint8_t run(const uint8_t *events, size_t events_len, uint8_t *answers, size_t answers_len) {
+    return paxos_commit_run(1, 1, 1, ORDER, states, sizeof states, votes, sizeof votes, network, sizeof network,
+                            inboxes, sizeof inboxes, events, events_len, answers, answers_len);
+}
+
+static void say_run(const char *what, uint8_t number, const uint8_t *answers, size_t answers_len) {
+    if (number == 0)
+        printf("%s: accepted\n", what);
+    else
+        printf("%s: refused, %u\n", what, number);
+    show("answers", answers, answers_len);
+}
+
+/* The four tables of the record, to compare them. */
+struct record {
+    uint8_t w[sizeof states], q[sizeof votes], n[sizeof network], i[sizeof inboxes];
+};
+
+static struct record kept(void) {
+    struct record record;
+    memcpy(record.w, states, sizeof states);
+    memcpy(record.q, votes, sizeof votes);
+    memcpy(record.n, network, sizeof network);
+    memcpy(record.i, inboxes, sizeof inboxes);
+    return record;
+}
+
+static void put_back(const struct record *record) {
+    memcpy(states, record->w, sizeof states);
+    memcpy(votes, record->q, sizeof votes);
+    memcpy(network, record->n, sizeof network);
+    memcpy(inboxes, record->i, sizeof inboxes);
+}
+
+static void backlog(void) {
+    /* Document 01's example; its third event comes too early here, and is refused with 8. */
+    static const uint8_t events[7][PAXOS_COMMIT_EVENT] = {
+        {PAXOS_COMMIT_KIND_PREPARE, 0, 0, 0},        {PAXOS_COMMIT_KIND_VOTE, 0, 0, 0},
+        {PAXOS_COMMIT_KIND_TAKE_DECISION, 0, 0, 2},  {PAXOS_COMMIT_KIND_RECEIPT, 0, 0, 1},
+        {PAXOS_COMMIT_KIND_COMMIT, 0, 0, 0},         {PAXOS_COMMIT_KIND_TAKE_DECISION, 0, 0, 2},
+        {PAXOS_COMMIT_KIND_CHOOSE_TO_ABORT, 0, 0, 0}};
+    const uint8_t *list = &events[0][0];
+    uint8_t answers[8];
+    struct record fresh, old, now;
+    printf("-- a backlog as one list\n");
+    paxos_commit_open(1, 1, 1, ORDER, states, sizeof states, votes, sizeof votes, network, sizeof network, inboxes,
+                      sizeof inboxes);
+    fresh = kept();
+    memset(answers, 0xEE, sizeof answers);
+    say_run("seven events", run(list, sizeof events, answers, 7), answers, 8);
+    say_ending(paxos_commit_ending(1, 1, 1, ORDER, states, sizeof states));
+    show("N", network, 24);
+
+    /* Refused, and no byte of tables or answers changes; and no events, which is accepted. */
+    old = kept();
+    say_run("the same with eight answers", run(list, sizeof events, answers, 8), answers, 8);
+    say_run("a cut list", run(list, sizeof events - 1, answers, 6), answers, 8);
+    network[23] ^= 1;
+    say_run("a cut list, with a byte after a message in N", run(list, sizeof events - 1, answers, 6), answers, 8);
+    network[23] ^= 1;
+    say_run("no events", run(list, 0, answers, 0), answers, 8);
+    now = kept();
+    printf("tables: %s\n", memcmp(&now, &old, sizeof now) ? "changed" : "unchanged");
+
+    /* Bytes near to events, in buffers of their length: each list, and then its events one after the other. */
+    unsigned refused = 0, accepted = 0, differ = 0, changed = 0;
+    for (int round = 0; round < 2000; round++) {
+        size_t count = random_byte() % 10, len = PAXOS_COMMIT_EVENT * count + (random_byte() % 8 == 0),
+               told_len = count + (random_byte() % 8 == 0);
+        uint8_t *bytes = zeros(len), *told = zeros(told_len);
+        struct record once, each;
+        for (size_t k = 0; k < len; k++)
+            bytes[k] = k % 4 == 0 ? random_byte() % 9 : k % 4 == 3 ? random_byte() % 24 : 0;
+        memset(told, 0xEE, told_len);
+        if (round % 50 == 0)
+            put_back(&fresh);
+        old = kept();
+        if (run(bytes, len, told, told_len) != 0) {
+            refused++;
+            once = kept();
+            changed += memcmp(&once, &old, sizeof old) != 0;
+            for (size_t k = 0; k < told_len; k++)
+                changed += told[k] != 0xEE;
+        } else {
+            once = kept();
+            put_back(&old);
+            for (size_t k = 0; k < count; k++) {
+                differ += told[k] != paxos_commit_refusal_of(step(bytes + PAXOS_COMMIT_EVENT * k, PAXOS_COMMIT_EVENT));
+                accepted += told[k] == 0;
+            }
+            each = kept();
+            differ += memcmp(&once, &each, sizeof each) != 0;
+        }
+        free(bytes);
+        free(told);
+    }
+    printf("junk lists: %u refused with 19, in the others %u events accepted; %u answers or tables differ from single "
+           "calls, %u refused lists changed a byte\n",
+           refused, accepted, differ, changed);
+}
+
 /* ---- a host for each role: n = 2, A = 3, L = 1 ---- */
 
 enum { RMS = 2, ACCEPTORS = 3, LEADERS = 1 };
@@ -168,14 +279,6 @@ struct message {
     uint8_t bytes[PAXOS_COMMIT_SLOT];
     size_t len;
 };
-
-/* Zeros, of exactly this length. No pointer that is lent is null, also with length 0. */
-static uint8_t *zeros(size_t len) {
-    uint8_t *bytes = calloc(len == 0 ? 1 : len, 1);
-    if (bytes == NULL)
-        exit(1);
-    return bytes;
-}
 
 static struct host new_host(const char *name, uint8_t who, role_step *step, size_t table_len, size_t slots) {
     size_t network_len = PAXOS_COMMIT_NETWORK_SIZE(slots);
@@ -365,13 +468,14 @@ static void names(void) {
     }
     paxos_commit_event_at_slot(PAXOS_COMMIT_KIND_VOTE, 2, PAXOS_COMMIT_ANSWER_REFUSED + 15, event);
     show("event with a refused answer as its slot", event, sizeof event);
-    for (uint8_t number = 0; number <= 19; number++)
+    for (uint8_t number = 0; number <= 20; number++)
         printf("refusal %u: %s\n", number, paxos_commit_refusal_name(number));
 }
 
 int main(void) {
     rehearsal();
     junk();
+    backlog();
     hosts(64);
     hosts(1);
     hosts(0);

@@ -2,9 +2,9 @@
  * The proved Paxos Commit record, for C and C++.
  *
  * The calls are written in Rattle and proved to answer and store exactly what document 01 says, with the order number
- * of document 02, Paper 1. Each group below is a static library of its own; a host links those that it needs, and none
- * has another role's code. They link into x86-64 programs, position independent or not, and use less than 8 KiB of
- * stack. libhost_message.a wants nothing, the others `memset`.
+ * and the list of document 02, Papers 1 and 2. Each group below is a static library of its own; a host links those that
+ * it needs, and none has another role's code. They link into x86-64 programs, position independent or not, and use less
+ * than 8 KiB of stack. libhost_message.a wants nothing, the others `memset`.
  *
  *     libhost_message.a     paxos_commit_read, paxos_commit_write, paxos_commit_length
  *     libhost_deliver.a     paxos_commit_deliver
@@ -12,6 +12,7 @@
  *     libhost_acceptor.a    paxos_commit_acceptor_step
  *     libhost_leader.a      paxos_commit_leader_step
  *     libhost_record.a      paxos_commit_open, paxos_commit_step, paxos_commit_ending
+ *     libhost_batch.a       paxos_commit_run
  *
  * What is lent is any bytes of any length: there is nothing to check before a call. A call accepts, or answers one
  * refusal, the one with the lowest number that applies; a refusal changes no byte. Every call ends.
@@ -98,7 +99,9 @@ enum paxos_commit_refusal {
     /* reader, writer, delivery: ins, acc or val out of range, or a 1a with bal 0 */
     PAXOS_COMMIT_REFUSAL_OUT_OF_RANGE = 17,
     /* reader, delivery: nothing else is wrong, but the message has another order number */
-    PAXOS_COMMIT_REFUSAL_OTHER_ORDER = 18
+    PAXOS_COMMIT_REFUSAL_OTHER_ORDER = 18,
+    /* the list call: not whole events, or the answers are not one byte for each event */
+    PAXOS_COMMIT_REFUSAL_BAD_LIST = 19
 };
 
 /* A weight's state, a byte of W. */
@@ -229,6 +232,18 @@ uint32_t paxos_commit_step(uint8_t rms, uint8_t acceptors, uint8_t leaders, uint
 uint32_t paxos_commit_ending(uint8_t rms, uint8_t acceptors, uint8_t leaders, uint16_t order, const uint8_t *states,
                              size_t states_len);
 
+/* ---- libhost_batch.a ---- */
+
+/* The list call: a backlog of events in one list, PAXOS_COMMIT_EVENT bytes each, any number of them. It judges all four
+ * tables once, then runs the events in order and goes on after one that is refused. Accepted: 0, and byte k of
+ * `answers`, which has a byte for each event, is 0 where event k was accepted, and else its refusal, 7 to 14; answers
+ * and tables are those of paxos_commit_step called for one event after the other. Refused: 1 to 6 or 19; then no byte
+ * of the tables changes, and none of `answers`. */
+uint8_t paxos_commit_run(uint8_t rms, uint8_t acceptors, uint8_t leaders, uint16_t order, uint8_t *states,
+                         size_t states_len, uint8_t *votes, size_t votes_len, uint8_t *network, size_t network_len,
+                         uint8_t *inboxes, size_t inboxes_len, const uint8_t *events, size_t events_len,
+                         uint8_t *answers, size_t answers_len);
+
 /* ---- what a host does around the calls; plain C, tested and not proved ---- */
 
 /* The bytes of an event; `who` is the host's own number. Kinds 0, 1, 7 and 8: */
@@ -273,7 +288,7 @@ static inline size_t paxos_commit_sent(const uint8_t *network, size_t network_le
     return len;
 }
 
-/* A refusal in words, with its number; "no refusal" for 0 and for a number above 18. */
+/* A refusal in words, with its number; "no refusal" for 0 and for a number above 19. */
 static inline const char *paxos_commit_refusal_name(uint8_t number) {
     switch (number) {
     case PAXOS_COMMIT_REFUSAL_BAD_PLAN:
@@ -312,6 +327,8 @@ static inline const char *paxos_commit_refusal_name(uint8_t number) {
         return "a field of the message is out of range (17)";
     case PAXOS_COMMIT_REFUSAL_OTHER_ORDER:
         return "the message is of another order (18)";
+    case PAXOS_COMMIT_REFUSAL_BAD_LIST:
+        return "the list is not whole events with an answer each (19)";
     default:
         return "no refusal";
     }

@@ -7,13 +7,14 @@ use std::env;
 use std::path::{Path, PathBuf};
 
 /// A feature, as Cargo names it to a build script, and its static library.
-const LIBRARIES: [(&str, &str); 6] = [
+const LIBRARIES: [(&str, &str); 7] = [
     ("CARGO_FEATURE_MESSAGE", "host_message"),
     ("CARGO_FEATURE_DELIVER", "host_deliver"),
     ("CARGO_FEATURE_RM", "host_rm"),
     ("CARGO_FEATURE_ACCEPTOR", "host_acceptor"),
     ("CARGO_FEATURE_LEADER", "host_leader"),
     ("CARGO_FEATURE_RECORD", "host_record"),
+    ("CARGO_FEATURE_BATCH", "host_batch"),
 ];
 
 fn main() {

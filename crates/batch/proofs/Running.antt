@@ -2,12 +2,12 @@
 --     Running                               after i events: the answers so far and the single calls from here on are those from the start
 --     running-start, running-next, running-end
 --     event-within                          the next event lies within the list
---     run-refused, run-cut, run-finished    the judgement refuses; no list; the events were run
+--     run-stopped, run-cut, run-finished    the judgement refuses; no list; the events were run
 -- Assumes nothing.
-use Prim.Native.Nat.{ℕ, suc, _+_, _-_, _*_, _≤_, _<_}
+use Prim.Native.Nat.{ℕ, _+_, _-_, _*_, _≤_, _<_}
 use mathlib.Core.Bool.{true, false}
 use mathlib.Core.List.{List, [], _∷_, _++_}
-use mathlib.Core.Path.{_≡_, refl, sym, _∙_, ap}
+use mathlib.Core.Path.{_≡_, refl, sym, _∙_}
 use mathlib.Core.List.{append-nil}
 use native.Mathlib.Nat.{add-sub-cancel-left}
 use native.Mathlib.Numerals.{add-one}
@@ -21,7 +21,7 @@ use Rattle.record.specs.Record.Applied.{recordApplied}
 use Rattle.record.proofs.Stepping.{step-applied}
 use Rattle.conformance.specs.Theorems.{record-sound}
 use Rattle.batch.specs.Run.{eventsOf, singleCalls, tablesLeft, numbersOf, Run, isList, runJudged, finishedRun, recordRun}
-use Rattle.batch.specs.Run.Laws.{is-list, events-at}
+use Rattle.batch.specs.Run.Laws.{is-list, events-at, run-bad}
 
 -- a list call that was accepted
 abbrev runAs : Tables → List ℕ → Run
@@ -76,9 +76,8 @@ module _ (p : Plan) (t₀ : Tables) (events : List ℕ) where
 
 -- the whole call
 module _ (p : Plan) (t : Tables) (events answers : List ℕ) where
-  pub run-refused : (k : ℕ) → refused k ≡ recordJudged p t → record { answer = refused k; tables = t; answers = answers } ≡ recordRun p t events answers
-  unfolding recordRun runJudged andThen
-  run-refused k h = rw (← h)
+  pub run-stopped : (k : ℕ) → refused k ≡ recordJudged p t → record { answer = refused k; tables = t; answers = answers } ≡ recordRun p t events answers
+  run-stopped k h = sym (run-bad p t events answers k (sym h))
 
   module _ (ok : accepted tt ≡ recordJudged p t) where
     pub run-cut : isList events answers ≡ false → record { answer = refused 19; tables = t; answers = answers } ≡ recordRun p t events answers

@@ -7,6 +7,7 @@
 --     finishedRun, settledRun, recordRun     the list call: the single calls' tables and numbers; a refused one changes no byte
 -- Its laws are in Run/Laws.antt. Assumes nothing.
 pub mod Laws
+pub mod Numbers
 use Prim.Native.Nat.{ℕ, _/_, _%_}
 use mathlib.Core.Bool.{Bool, _&&_, not}
 use mathlib.Core.List.{List, [], _∷_, map}

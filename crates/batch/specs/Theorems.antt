@@ -1,44 +1,32 @@
 -- What the list call answers and leaves (document 02, Paper 2), for every plan, all tables, any bytes as the list and as the lent answers.
 -- `recordRun` is what the contract of `batch::run` names.
 --     run-answers     the lowest number that applies is returned: 1 to 6 for the plan and the tables, then 19
+--     run-numbers     so it is one of 1 to 6, or 19; and what an accepted call writes is 0 or one of 7 to 14
 --     run-keeps       a refused call leaves the four tables and the answers as they were
 --     run-empty       the empty list is accepted where 1 to 6 pass, and changes nothing
 --     run-one         a list of one event is the event call: its number, 0 or the refusal, and its tables
 --     run-halves      a list is its two halves one after the other
+--     run-means       how the contract reads the enum
 -- Empty, one and halves leave nothing open: they give every list. Assumes nothing.
-use Prim.Native.Nat.{ℕ, zero, suc, _+_, _*_, _/_, _%_, _<_}
-use mathlib.Core.Bool.{Bool, true, false, _&&_, not}
-use mathlib.Core.List.{List, [], _∷_, _++_, map, append-assoc, map-append}
-use mathlib.Core.Logic.{_⊎_, inl, inr, ⊎-elim}
-use mathlib.Core.Path.{_≡_, refl, sym, _∙_, ap}
+use Prim.Native.Nat.{ℕ, _*_, _≤_}
+use mathlib.Core.Bool.{not}
+use mathlib.Core.List.{List, [], _∷_, _++_, List·Memᴰ}
+use mathlib.Core.Logic.{_⊎_}
+use mathlib.Core.Path.{_≡_, refl, _∙_, ap}
 use native.Mathlib.Omega.{arith}
-use lib.Dec.{eqb}
-use lib.ListN.{length, getD, take, length-append}
-use borrow.Author.Tests.{eqb-true, eqb-false, eq-eqb, not-true, not-false}
+use lib.ListN.{length, length-append}
+use borrow.Author.Tests.{not-true, not-false}
 use Rattle.message.specs.declared.Plan.{Plan}
-use Rattle.message.specs.Outcome.{Outcome, accepted, refused, andThen, refuseIf, numberOf}
-use Rattle.message.specs.Outcome.Laws.{both}
+use Rattle.message.specs.Outcome.{Outcome, accepted, refused, numberOf}
 use Rattle.message.specs.Rows.{Lowest}
-use Rattle.message.specs.Rows.Laws.{isAscending, Ruled, ruled-row, ruled-end, lowest-of-ruled}
-use Rattle.record.specs.Record.{Tables, RecordStep, recordJudged, recordStep}
+use Rattle.message.specs.Rows.Laws.{isAscending, ruled-row, ruled-end, lowest-of-ruled}
+use Rattle.change.specs.declared.Judged.the-variants.{Sound, Refused}
+use Rattle.record.specs.Record.{Tables, recordJudged, recordStep}
 use Rattle.conformance.specs.Record.Judges.{record-judges-then}
-use Rattle.conformance.specs.Theorems.{record-sound}
 use Rattle.batch.specs.Rows.{runRows}
-use Rattle.batch.specs.Run.{eventsOf, singleCalls, tablesLeft, numbersOf, Run, isList, runJudged, finishedRun, recordRun}
-use Rattle.batch.specs.Run.Laws.{answer-judged, run-refused, run-whole, run-bad, events-append, calls-append, left-append}
-
-module _ (events answers : List ℕ) where
-  no-list : isList events answers ≡ false → (length events % 4 ≡ 0 → ⊥) ⊎ (length answers ≡ length events / 4 → ⊥)
-  no-list h = go (eqb (length events % 4) 0) refl
-    where
-      go : (whole : Bool) → eqb (length events % 4) 0 ≡ whole → (length events % 4 ≡ 0 → ⊥) ⊎ (length answers ≡ length events / 4 → ⊥)
-      go false e = inl (eqb-false _ _ e)
-      go true e = inr (eqb-false _ _ (rw e at h))
-
-  a-list : isList events answers ≡ true → (length events % 4 ≡ 0 → ⊥) ⊎ (length answers ≡ length events / 4 → ⊥) → ⊥
-  a-list h =
-      let parts = both (eqb (length events % 4) 0) (eqb (length answers) (length events / 4)) h in
-      ⊎-elim (λ n. n (eqb-true _ _ (parts .0))) (λ n. n (eqb-true _ _ (parts .1)))
+use Rattle.batch.specs.Run.{eventsOf, Run, runOf, isList, runJudged, finishedRun, recordRun}
+use Rattle.batch.specs.Run.Laws.{no-list, a-list, finished-sound, finished-halves, answer-judged, run-accepted, run-refused, run-sound, run-whole, run-bad}
+use Rattle.batch.specs.Run.Numbers.{run-number, written-number}
 
 module _ (p : Plan) (t : Tables) (events answers : List ℕ) where
   pub run-answers : Lowest (runRows p t events answers) (recordRun p t events answers .answer)
@@ -50,34 +38,26 @@ module _ (p : Plan) (t : Tables) (events answers : List ℕ) where
       (ruled-row (not (isList events answers)) 19 _ _ _ (λ h. no-list events answers (not-true _ h)) (λ h. a-list events answers (not-false _ h)) (λ _.
       ruled-end (tt {0})))))
 
+  pub run-numbers :
+      ((k : ℕ) → recordRun p t events answers .answer ≡ refused k → ((1 ≤ k) × (k ≤ 6)) ⊎ (k ≡ 19))
+      × (recordRun p t events answers .answer ≡ accepted tt → (k : ℕ) → List·Memᴰ k (recordRun p t events answers .answers)
+      → (k ≡ 0) ⊎ ((7 ≤ k) × (k ≤ 14)))
+  unfolding finishedRun
+  run-numbers = (
+    (λ k is. run-number p t events answers k (run-answers .refuses k .0 is .0)),
+    λ is k there.
+        written-number p t (run-sound p t events answers is) (eventsOf events) k
+        (rw (ap (λ (r : Run). r .answers) (run-accepted p t events answers is)) at there),
+  )
+
   pub run-keeps : (k : ℕ) → recordRun p t events answers .answer ≡ refused k
       → (recordRun p t events answers .tables ≡ t) × (recordRun p t events answers .answers ≡ answers)
   run-keeps k is = let kept = run-refused p t events answers k is in (ap (λ (r : Run). r .tables) kept, ap (λ (r : Run). r .answers) kept)
 
--- a record that was judged stays sound through the calls
-sound-calls : (p : Plan) (t : Tables) → recordJudged p t ≡ accepted tt → (es : List (List ℕ)) → recordJudged p (tablesLeft t (singleCalls p t es)) ≡ accepted tt
-sound-calls p t ok [] = ok
-sound-calls p t ok (e ∷ es) = sound-calls p (recordStep p t e .tables) (record-sound p t e ok) es
-
-finished-sound : (p : Plan) (t : Tables) → recordJudged p t ≡ accepted tt → (events : List ℕ) → recordJudged p (finishedRun p t events .tables) ≡ accepted tt
-unfolding finishedRun
-finished-sound p t ok events = sound-calls p t ok (eventsOf events)
-
--- the calls of two lists
-finished-halves : (p : Plan) (t : Tables) (n : ℕ) (first second : List ℕ) → length first ≡ 4 * n
-    → finishedRun p t (first ++ second)
-    ≡ record {
-      answer = finishedRun p (finishedRun p t first .tables) second .answer;
-      tables = finishedRun p (finishedRun p t first .tables) second .tables;
-      answers = finishedRun p t first .answers ++ finishedRun p (finishedRun p t first .tables) second .answers;
-    }
-unfolding finishedRun
-finished-halves p t n first second whole =
-    let one : List RecordStep = singleCalls p t (eventsOf first) in
-    let two : List RecordStep = singleCalls p (tablesLeft t one) (eventsOf second) in
-    let calls : singleCalls p t (eventsOf (first ++ second)) ≡ one ++ two =
-    ap (singleCalls p t) (events-append n first second whole) ∙ calls-append p t (eventsOf first) (eventsOf second) in
-    rw (calls, left-append t one two, map-append (λ (s : RecordStep). numberOf (s .answer)) one two)
+pub run-means : (t : Tables) (answers : List ℕ)
+    → (runOf Sound t answers ≡ record { answer = accepted tt; tables = t; answers = answers })
+    × ((k : ℕ) → runOf (Refused k) t answers ≡ record { answer = refused k; tables = t; answers = answers })
+run-means t answers = (refl, λ k. refl)
 
 module _ (p : Plan) (t : Tables) where
   pub run-empty : recordJudged p t ≡ accepted tt → recordRun p t [] [] ≡ record { answer = accepted tt; tables = t; answers = [] }

@@ -85,6 +85,7 @@ pub fn verdict_number(verdict: Verdict) -> u8
     }
 }
 
+// Sets mbal, bal and val, three bytes of Q from `at` on. Past the table's end nothing changes.
 pub fn set_vote(votes: &mut [u8], at: usize, mbal: u8, bal: u8, val: u8)
     ensures { λ _. ⌜ now (votes .exit) ≡ set (set (set (now (votes .entry)) at mbal) (at + 1) bal) (at + 2) val ⌝ }
 {

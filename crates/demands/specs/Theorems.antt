@@ -3,8 +3,8 @@
 --     demand-1, -lowest (-list, -opening, -roles, -messages)      an acceptance or one refusal number from the documents; the lowest that applies; no
 --                           byte changes
 --     demand-2, -acts, -sets, -copies, -published      accepted exactly where the published action is enabled and no other row applies; what is then set
---     demand-3, -words      over every list of event calls and list calls from a fresh record
---     list-counts           a list call counts as its single calls in order, and as none where it is refused; its answers and tables are theirs
+--     demand-3, -words, -list     over every list of event calls and list calls from a fresh record
+--     list-counts, list-claims     a list call counts as its single calls in order, and as none where it is refused; its answers and tables are theirs
 --     byte-form, -written   a slice is read as a message exactly where it is the one form of that message
 --     orders-apart, -list, -roles  no call accepts what another order's writer gives, not as a slice and not from a table; by which rows: Orders.antt
 -- For every plan, so for each order number. Assumes nothing.
@@ -28,7 +28,7 @@ use Rattle.paxos_commit.specs.PaxosCommit.{State, initial, PCStep}
 use Rattle.rm.specs.Rm.{rmStep}
 use Rattle.acceptor.specs.Acceptor.{acceptorStep}
 use Rattle.leader.specs.Leader.{leaderStep}
-use Rattle.record.specs.Record.{Tables, inboxOf, recordStep, recordOpen}
+use Rattle.record.specs.Record.{Tables, inboxOf, RecordStep, recordStep, recordOpen}
 use Rattle.matching.specs.Reading.{isRM, isAcceptor, isMajoritySet}
 use Rattle.matching.specs.Call.{Accepted, Enabled}
 use Rattle.matching.specs.Theorems.{rm-answers, rm-keeps, acceptor-answers, acceptor-keeps, leader-answers, leader-keeps}
@@ -122,6 +122,11 @@ module _ (p : Plan) (t : Tables) (fresh : Fresh t) (calls : List Call) where
   pub demand-3-words : AfterEach p (SafeInWords p) t calls
   demand-3-words = Words.demand-3-words p t fresh calls
 
+  -- nor does a list call after such a list write 11
+  pub demand-3-list : (events given : List ℕ) → recordRun p (tablesAfter p t calls) events given .answer ≡ accepted tt
+      → List·Memᴰ 11 (recordRun p (tablesAfter p t calls) events given .answers) → ⊥
+  demand-3-list = Safety.list-never-11 p t fresh calls
+
   -- and after such a list what an accepted event's action sets is a step of the published module, with every condition read from N
   pub demand-2-published : (e : List ℕ) → Accepted (recordStep p (tablesAfter p t calls) e .answer)
       → (s′ : State) → Action p (tablesAfter p t calls) e (recordState p (tablesAfter p t calls)) s′
@@ -136,6 +141,12 @@ pub list-counts : (p : Plan) (t : Tables) (events given : List ℕ) (calls : Lis
     × (recordRun p t events given .tables ≡ tablesAfter p t (run events given ∷ [])))
     × ((k : ℕ) → recordRun p t events given .answer ≡ refused k → made p t (run events given ∷ calls) ≡ made p t calls)
 list-counts = Safety.run-counts
+
+-- so what is claimed after each call of a list is claimed of each of its events
+pub list-claims : (p : Plan) (P : Tables → RecordStep → Type 0) (t : Tables) (events given : List ℕ) (calls : List Call)
+    → (recordRun p t events given .answer ≡ accepted tt → AfterEach p P t (run events given ∷ calls) ↔ AfterEach p P t (map event (eventsOf events) ++ calls))
+    × ((k : ℕ) → recordRun p t events given .answer ≡ refused k → AfterEach p P t (run events given ∷ calls) ↔ AfterEach p P t calls)
+list-claims p P t events given calls = let counts = Safety.after-each-counts p P t calls in (counts .1 events given, counts .2 events given)
 
 -- the form of a message is `bytesOf`; the writer gives it, with zeros after it, and 0 as its number
 module _ (p : Plan) (m : Message) where

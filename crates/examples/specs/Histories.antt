@@ -4,6 +4,7 @@
 --     committing, aborting, declining     the lists of calls
 --     orders-end            what they answer, and W afterwards
 --     committing-list, lists-end     the first as one list, and lists that are refused whole
+--     mixing, mixed-ends    lists among event calls
 --     order-examples        an old map, a bad field of another order, other orders by either byte, and a Commit of this order and of another
 --     on, unused, refusals     each number of the event call, on tables given byte by byte
 --     spread, places        three weights, three acceptors and two leaders: where each call puts its bytes in the four tables
@@ -34,8 +35,8 @@ use Rattle.inbox.specs.Inbox.{any, is1b, is2a, is2b, higher, reportOf, highestR
 use Rattle.leader.specs.Leader.{owns, leaderJudged, receiptStore, receipt, phase1a, phase2aMessage, keepOwn, sendBoth, phase2a, sendOnly, decideSend}
 use Rattle.leader.specs.Leader.{leaderKind, leaderVerdict, leaderStep}
 use Rattle.record.specs.Record.{Tables, tablesOf, inboxSize, inboxOf, withInbox, areLengths, areInboxes, recordJudged, roleStep, recordStep}
-use Rattle.batch.specs.Run.{Run, runJudged, finishedRun, recordRun}
-use Rattle.safety.specs.Lists.{Call, event, answers, tablesAfter}
+use Rattle.batch.specs.Run.{runJudged, finishedRun, recordRun}
+use Rattle.safety.specs.Lists.{Call, event, run, answers, tablesAfter}
 
 abbrev pub order : Plan
 order = record { rms = 1; acceptors = 1; leaders = 1; order = 0x0102 }
@@ -111,6 +112,31 @@ unfolding readMessage andThen refuseIf isPlan isCount isValue isVote isInRange b
     inboxSize inboxOf withInbox areLengths areInboxes recordJudged roleStep recordStep runJudged
     finishedRun recordRun
 lists-end = (refl, refl, refl, refl, refl, refl, refl, refl, refl, refl)
+
+-- lists among event calls: a list of three events, one of them refused, a cut list, which counts as none, and the rest
+abbrev pub mixing : List Call
+mixing =
+    call 0 0 0
+    ∷ run (3 ∷ 0 ∷ 0 ∷ 0 ∷ 9 ∷ 0 ∷ 0 ∷ 0 ∷ 4 ∷ 0 ∷ 0 ∷ 1 ∷ []) (99 ∷ 99 ∷ 99 ∷ [])
+    ∷ run (7 ∷ 0 ∷ 0 ∷ []) (99 ∷ [])
+    ∷ call 7 0 0
+    ∷ run (2 ∷ 0 ∷ 0 ∷ 2 ∷ []) (99 ∷ [])
+    ∷ []
+
+pub mixed-ends :
+    (answers order fresh mixing
+    ≡ accepted (Slot 0) ∷ accepted (Slot 1) ∷ refused 7 ∷ accepted Quiet ∷ accepted (Slot 2) ∷ accepted Quiet ∷ [])
+    × (tablesAfter order fresh mixing .states ≡ 2 ∷ [])
+unfolding readMessage andThen refuseIf isPlan isCount isValue isVote isInRange bytesOf bytesOf1b messageLength slotOf mapLengths
+    mapLength fieldsMessage decode hasOrder all isTableLength slotsUpTo slots isZero readSlot readTable allUnused isOrdered isTable usedMessages
+    messages sameBytes storeAt sameMessage placeFrom placeIn messageAt sending slotNumber whoLimit areZero areArguments isEvent
+    areStates rmJudged rmChoose rmReceiveDecision rmReceive rmKind rmVerdict rmStep voteAt
+    isVoteState areVotes acceptorJudged voteOf phase1b phase2b acceptorReceive acceptorVerdict acceptorStep countAcceptors isMajority
+    isQuorum any is1b is2a is2b higher reportOf highestReport proposal chosen isChosen2b decided forAll forSome owns leaderJudged
+    receiptStore receipt phase1a phase2aMessage keepOwn sendBoth phase2a sendOnly decideSend leaderKind leaderVerdict leaderStep
+    inboxSize inboxOf withInbox areLengths areInboxes recordJudged roleStep recordStep runJudged
+    finishedRun recordRun
+mixed-ends = (refl, refl)
 
 -- leader 1 opens ballot 3 for weight 2, acceptor 1 promises, leader 1 hears of it, weight 2 prepares
 abbrev pub spread : List Call

@@ -9,7 +9,7 @@
 pub mod Laws
 use Prim.Native.Nat.{ℕ, zero, suc, _*_, _%_}
 use mathlib.Core.Bool.{cond}
-use mathlib.Core.List.{List, [], _∷_, _++_}
+use mathlib.Core.List.{List, [], _∷_, _++_, map}
 use lib.Dec.{ltb, eqb}
 use lib.ListN.{length, take, drop, replicate}
 use Rattle.message.specs.declared.Plan.{Plan}
@@ -34,18 +34,17 @@ freshTables slots p =
     tablesOf (replicate (p .rms) 0) (replicate (3 * (p .rms * p .acceptors)) 0) (replicate (slotSize * slots) 0) (replicate (p .leaders * (slotSize * slots)) 0)
 
 -- "one line per event, 0 or the refusal"
-abbrev pub linesOf : List (Outcome Sent) → List ℕ
-linesOf [] = []
-linesOf (answer ∷ rest) = line (numberOf answer) ++ linesOf rest
-
-unfoldable pub textOf : Plan → Tables → List Call → List ℕ
-textOf p t calls = linesOf (answers p t calls) ++ wordOf (endingOf (tablesAfter p t calls .states))
-
--- the same lines from the answers' bytes; "A cut last event prints 7"
 abbrev pub numberLines : List ℕ → List ℕ
 numberLines [] = []
 numberLines (number ∷ rest) = line number ++ numberLines rest
 
+abbrev pub linesOf : List (Outcome Sent) → List ℕ
+linesOf said = numberLines (map numberOf said)
+
+unfoldable pub textOf : Plan → Tables → List Call → List ℕ
+textOf p t calls = linesOf (answers p t calls) ++ wordOf (endingOf (tablesAfter p t calls .states))
+
+-- "A cut last event prints 7"
 unfoldable pub cutLine : List ℕ → List ℕ
 cutLine events = cond (eqb (length events % 4) 0) [] (line 7)
 

@@ -1,9 +1,9 @@
--- The record implements module PaxosCommit as published, every condition read from msgs, which is N: each list of event calls from a fresh
+-- The record implements module PaxosCommit as published, every condition read from msgs, which is N: each list of calls from a fresh
 -- record is a behaviour of PCSpec, so the theorems of document 001 (paxos_commit's Theorems.antt) hold of it.
 --     Published              one event call: an accepted one is an action of PCNext, a receipt apart; a receipt and a refused call leave W, Q and N
 --     record-published       every event call after every list of calls
 --     action-published       and every step that `Action` allows an accepted event: demand 2's actions are those of the module
---     stateAt                the state at time n: what the first n single calls of a list leave
+--     tablesAt, stateAt      the tables, and the state, at time n: what the first n single calls of a list leave
 --     record-behaviour       it is a behaviour of PCSpec
 --     record-commits         so W is one of TCSpec
 --     record-one-decision    and N never holds both Commit and Abort
@@ -29,10 +29,11 @@ use Rattle.matching.specs.Call.{Accepted}
 use Rattle.conformance.specs.Record.{recordState}
 use Rattle.conformance.specs.Action.{Action}
 use Rattle.safety.specs.Grounds.{sentIn, Unchanged}
-use Rattle.safety.specs.Grounds.Steps.{Used, used-zeros, used-event, published-event, action-event, kept-event}
+use Rattle.safety.specs.Grounds.Steps.{Used, used-event, published-event, action-event, kept-event}
 use Rattle.batch.specs.Run.{singleCalls, tablesLeft}
+use Rattle.batch.specs.Run.Laws.{calls-keep}
 use Rattle.safety.specs.Lists.{Fresh, Call, counted, made, tablesAfter}
-use Rattle.safety.specs.Theorems.{fresh-initial}
+use Rattle.safety.specs.Theorems.{used-fresh, fresh-initial}
 
 -- the event call e on the tables t, as module PaxosCommit sees it
 pub record Published (p : Plan) (t : Tables) (e : List ℕ) : Type 0 where
@@ -64,8 +65,7 @@ module _ (p : Plan) where
       stays kind (refused k) is = kept-event p t e k is
 
   used-after : (t : Tables) → Used p t → (es : List (List ℕ)) → Used p (tablesLeft t (singleCalls p t es))
-  used-after t u [] = u
-  used-after t u (e ∷ es) = used-after (recordStep p t e .tables) (used-event p t e u) es
+  used-after = calls-keep p (Used p) (λ t e. used-event p t e)
 
   abbrev Step : Tables → Tables → Type 0
   Step t t′ = PCStep (isRM p) (isAcceptor p) (isMajoritySet p) (recordState p t) (recordState p t′)
@@ -89,21 +89,18 @@ module _ (p : Plan) where
   steps t u (e ∷ es) (suc n) = steps (recordStep p t e .tables) (used-event p t e u) es n
 
 module _ (p : Plan) (t : Tables) (fresh : Fresh t) (calls : List Call) where
-  used-fresh : Used p t
-  used-fresh = used-zeros p t (fresh .0) (fresh .1) (fresh .2) (fresh .3)
-
   pub record-published : (e : List ℕ) → Published p (tablesAfter p t calls) e
-  record-published e = published p (tablesAfter p t calls) e (used-after p t used-fresh (counted p t calls))
+  record-published e = published p (tablesAfter p t calls) e (used-after p t (used-fresh p t fresh) (counted p t calls))
 
   pub action-published : (e : List ℕ) → Accepted (recordStep p (tablesAfter p t calls) e .answer)
       → (s′ : State) → Action p (tablesAfter p t calls) e (recordState p (tablesAfter p t calls)) s′
       → PCStep (isRM p) (isAcceptor p) (isMajoritySet p) (recordState p (tablesAfter p t calls)) s′
   action-published e (sent, is) s′ a =
       ⊎-elim (λ (other, next). inl next) (λ (kind, row, states, msgs). inr (row, states, msgs))
-      (action-event p (tablesAfter p t calls) e (used-after p t used-fresh (counted p t calls)) sent is s′ a)
+      (action-event p (tablesAfter p t calls) e (used-after p t (used-fresh p t fresh) (counted p t calls)) sent is s′ a)
 
   pub record-behaviour : PCSpec (isRM p) (isAcceptor p) (isMajoritySet p) (stateAt p t calls)
-  record-behaviour = (fresh-initial p t fresh, steps p t used-fresh (counted p t calls))
+  record-behaviour = (fresh-initial p t fresh, steps p t (used-fresh p t fresh) (counted p t calls))
 
   pub record-commits : TCSpec (isRM p) (λ n. rmStateOf (tablesAt p t calls n .states))
   record-commits = paxos-commit-implements (isRM p) (isAcceptor p) (isMajoritySet p) (majorities-meet p .1) (stateAt p t calls) record-behaviour
@@ -112,8 +109,9 @@ module _ (p : Plan) (t : Tables) (fresh : Fresh t) (calls : List Call) where
   record-one-decision = one-decision (isRM p) (isAcceptor p) (isMajoritySet p) (majorities-meet p .1) (stateAt p t calls) record-behaviour
 
 module _ (p : Plan) (t : Tables) where
-  pub state-at : (calls : List Call) (n : ℕ) → stateAt p t calls n ≡ recordState p (tablesLeft t (take n (made p t calls)))
-  state-at calls n = refl
+  pub state-at : (calls : List Call) (n : ℕ)
+      → (tablesAt p t calls n ≡ tablesLeft t (take n (made p t calls))) × (stateAt p t calls n ≡ recordState p (tablesLeft t (take n (made p t calls))))
+  state-at calls n = (refl, refl)
 
   pub published-means : (e : List ℕ) → Published p t e
       → ((sent : Sent) → recordStep p t e .answer ≡ accepted sent → (kindOf e ≡ 4 → ⊥)

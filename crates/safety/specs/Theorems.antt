@@ -2,7 +2,8 @@
 -- single calls, document 02, Paper 2). The lists and the claims are those of Lists.antt.
 --     demand-3, never-11       after each call the three claims hold; so no answer of the list is 11
 --     network-kept             what stands in a slot of N stays there
---     event-counts, run-counts, tables-after, answers-after, after-each-split     what the definitions of Lists.antt mean: an event call is one
+--     list-never-11            nor does a list call write it
+--     event-counts, run-counts, tables-after, answers-after, after-each-counts, after-each-split     what the definitions of Lists.antt mean: an event call is one
 --                              call of the record, a list call its single calls in order, and none where it is refused; each is given what the calls
 --                              before it left
 --     demand-3-each            so demand 3 holds of every event call after every list of calls
@@ -13,21 +14,23 @@
 -- Why they hold: Grounds.antt. Assumes nothing.
 use Prim.Native.Nat.{ℕ}
 use mathlib.Core.List.{List, [], _∷_, _++_, map, append-nil, map-append, List·Memᴰ, List·Memᴰ·head, List·Memᴰ·tail, List·Memᴰ·not-nil}
+use mathlib.Core.Logic.{_↔_}
 use mathlib.Core.Path.{_≡_, refl, sym, _∙_, ap}
+use native.Mathlib.Omega.{arith}
 use lib.ListN.{length, length-replicate}
 use Rattle.message.specs.declared.Plan.{Plan}
 use Rattle.message.specs.declared.Message.{Message}
-use Rattle.message.specs.Outcome.{Outcome, accepted, refused}
+use Rattle.message.specs.Outcome.{Outcome, accepted, refused, numberOf}
+use Rattle.message.specs.Outcome.Laws.{refused-number}
 use Rattle.slots.specs.Table.{messages}
 use Rattle.slots.specs.Send.{messageAt}
-use Rattle.change.specs.declared.Sent.{Sent}
-use Rattle.record.specs.Record.{Tables, zeroed, RecordStep, recordStep, recordOpen}
+use Rattle.record.specs.Record.{Tables, RecordStep, recordStep, recordOpen}
 use Rattle.paxos_commit.specs.PaxosCommit.{PCInit}
 use Rattle.matching.specs.Reading.{isRM, isAcceptor, isMajoritySet}
 use Rattle.conformance.specs.Record.{recordState}
 use Rattle.conformance.specs.Theorems.{open-zeros}
-use Rattle.batch.specs.Run.{eventsOf, singleCalls, tablesLeft, numbersOf, Run, finishedRun, recordRun}
-use Rattle.batch.specs.Run.Laws.{run-accepted, run-refused}
+use Rattle.batch.specs.Run.{eventsOf, singleCalls, numbersOf, Run, finishedRun, recordRun}
+use Rattle.batch.specs.Run.Laws.{calls-keep, run-accepted, run-refused}
 use Rattle.safety.specs.Lists.{Fresh, Call, event, run, countedFor, counted, made, Each, AfterEach, Safe, answers, tablesAfter}
 use Rattle.safety.specs.Lists.Laws.{after-run, events-counted, made-append, tables-append, each-append}
 use Rattle.safety.specs.Grounds.Zeros.{zeros-zeroed}
@@ -35,7 +38,7 @@ use Rattle.safety.specs.Grounds.Opened.{initial-zeros}
 use Rattle.safety.specs.Grounds.Steps.{Used, used-zeros, used-event, path-event, agreed-used, not-contradicted-event, length-event, slot-event}
 
 module _ (p : Plan) where
-  used-fresh : (t : Tables) → Fresh t → Used p t
+  pub used-fresh : (t : Tables) → Fresh t → Used p t
   used-fresh t (w, q, n, i) = used-zeros p t w q n i
 
   -- one event call on a record that was opened and used
@@ -61,19 +64,33 @@ none-is-11 p t [] safe h = List·Memᴰ·not-nil h
 none-is-11 p t (s ∷ ss) safe (List·Memᴰ·head e) = safe .0 .not-contradicted (sym e)
 none-is-11 p t (s ∷ ss) safe (List·Memᴰ·tail h) = none-is-11 p (s .tables) ss (safe .1) h
 
+-- nor does a list call write it
+none-writes-11 : (p : Plan) (t : Tables) (steps : List RecordStep) → Each (Safe p) t steps → List·Memᴰ 11 (numbersOf steps) → ⊥
+none-writes-11 p t [] safe h = List·Memᴰ·not-nil h
+none-writes-11 p t (s ∷ ss) safe (List·Memᴰ·head e) = safe .0 .not-contradicted (sym (refused-number (s .answer) 11 e (λ z. omega arith)))
+none-writes-11 p t (s ∷ ss) safe (List·Memᴰ·tail h) = none-writes-11 p (s .tables) ss (safe .1) h
+
+pub list-never-11 : (p : Plan) (t : Tables) → Fresh t → (calls : List Call) (events given : List ℕ)
+    → recordRun p (tablesAfter p t calls) events given .answer ≡ accepted tt
+    → List·Memᴰ 11 (recordRun p (tablesAfter p t calls) events given .answers) → ⊥
+unfolding finishedRun
+list-never-11 p t fresh calls events given is there =
+    let u : Tables = tablesAfter p t calls in
+    let used = calls-keep p (Used p) (λ v e. used-event p v e) t (used-fresh p t fresh) (counted p t calls) in
+    none-writes-11 p u (singleCalls p u (eventsOf events)) (safe-events p u used (eventsOf events))
+    (rw (ap (λ (r : Run). r .answers) (run-accepted p u events given is)) at there)
+
 pub never-11 : (p : Plan) (t : Tables) → Fresh t → (calls : List Call) → List·Memᴰ (refused 11) (answers p t calls) → ⊥
 never-11 p t fresh calls = none-is-11 p t (made p t calls) (demand-3 p t fresh calls)
 
 -- what stands in N is never removed or changed: from any tables, fresh or not
-slot-events : (p : Plan) (t : Tables) (es : List (List ℕ)) (k : ℕ) (m : Message)
-    → messageAt (messages p (t .network)) k ≡ accepted m → messageAt (messages p (tablesLeft t (singleCalls p t es) .network)) k ≡ accepted m
-slot-events p t [] k m h = h
-slot-events p t (e ∷ es) k m h = slot-events p (recordStep p t e .tables) es k m (slot-event p t e k m h)
-
 pub network-kept : (p : Plan) (t : Tables) (calls more : List Call) (k : ℕ) (m : Message)
     → messageAt (messages p (tablesAfter p t calls .network)) k ≡ accepted m
     → messageAt (messages p (tablesAfter p t (calls ++ more) .network)) k ≡ accepted m
-network-kept p t calls more k m h = rw (tables-append p t calls more) (slot-events p (tablesAfter p t calls) (counted p (tablesAfter p t calls) more) k m h)
+network-kept p t calls more k m h =
+    rw (tables-append p t calls more)
+    (calls-keep p (λ u. messageAt (messages p (u .network)) k ≡ accepted m) (λ u e. slot-event p u e k m) (tablesAfter p t calls) h
+    (counted p (tablesAfter p t calls) more))
 
 -- what the definitions above mean: `counted` and `made` of one call and the rest
 module _ (p : Plan) (t : Tables) where
@@ -114,14 +131,39 @@ module _ (p : Plan) where
     λ events given. tables-append p t calls (run events given ∷ []) ∙ after-run p (tablesAfter p t calls) events given [],
   )
 
+  -- of two lists, one after the other; of an event call; of a list call that is accepted, or refused
   pub answers-after : (t : Tables) (calls : List Call)
-      → (answers p t [] ≡ [])
-      × ((more : List Call) → answers p t (calls ++ more) ≡ answers p t calls ++ answers p (tablesAfter p t calls) more)
+      → ((more : List Call) → answers p t (calls ++ more) ≡ answers p t calls ++ answers p (tablesAfter p t calls) more)
+      × (answers p t [] ≡ [])
+      × ((e : List ℕ) → answers p t (event e ∷ []) ≡ recordStep p t e .answer ∷ [])
+      × ((events given : List ℕ) → recordRun p t events given .answer ≡ accepted tt
+      → map numberOf (answers p t (run events given ∷ [])) ≡ recordRun p t events given .answers)
+      × ((events given : List ℕ) (k : ℕ) → recordRun p t events given .answer ≡ refused k → answers p t (run events given ∷ []) ≡ [])
   answers-after t calls = (
-    refl,
-    λ more.
+    (λ more.
         ap (map (λ (s : RecordStep). s .answer)) (made-append p t calls more)
-        ∙ map-append (λ (s : RecordStep). s .answer) (made p t calls) (made p (tablesAfter p t calls) more),
+        ∙ map-append (λ (s : RecordStep). s .answer) (made p t calls) (made p (tablesAfter p t calls) more)),
+    refl,
+    (λ e. refl),
+    (λ events given is. numbers-of (made p t (run events given ∷ [])) ∙ sym (run-counts p t events given [] .0 is .1)),
+    λ events given k is. ap (map (λ (s : RecordStep). s .answer)) (run-counts p t events given [] .1 k is),
+  )
+    where
+      numbers-of : (steps : List RecordStep) → map numberOf (map (λ (s : RecordStep). s .answer) steps) ≡ numbersOf steps
+      numbers-of [] = refl
+      numbers-of (s ∷ ss) = ap (λ (l : List ℕ). numberOf (s .answer) ∷ l) (numbers-of ss)
+
+  -- a claim about each call of a list: of an event call and the rest; a list call is its event calls, and where it is refused nothing
+  pub after-each-counts : (P : Tables → RecordStep → Type 0) (t : Tables) (calls : List Call)
+      → ((e : List ℕ) → AfterEach p P t (event e ∷ calls) ↔ (P t (recordStep p t e) × AfterEach p P (recordStep p t e .tables) calls))
+      × ((events given : List ℕ) → recordRun p t events given .answer ≡ accepted tt
+      → AfterEach p P t (run events given ∷ calls) ↔ AfterEach p P t (map event (eventsOf events) ++ calls))
+      × ((events given : List ℕ) (k : ℕ) → recordRun p t events given .answer ≡ refused k
+      → AfterEach p P t (run events given ∷ calls) ↔ AfterEach p P t calls)
+  after-each-counts P t calls = (
+    (λ e. (λ h. h, λ h. h)),
+    (λ events given is. let same = run-counts p t events given calls .0 is .0 in (λ h. rw same at h, λ h. rw same h)),
+    λ events given k is. let same = run-counts p t events given calls .1 k is in (λ h. rw same at h, λ h. rw same h),
   )
 
   pub after-each-split : (P : Tables → RecordStep → Type 0) (t : Tables) (calls : List Call) (more : List Call)

@@ -1,12 +1,14 @@
 //! The linked calls beside the hand-written Rust of documents 01 and 02, in one run. It prints Markdown tables of ratios,
 //! linked time / Rust time.
 //!
-//!     cargo bench --bench calls
+//!     cargo bench --bench calls                 all of it
+//!     cargo bench --bench calls -- lists        one part: events, roles, others, lists or rehearsals
 //!
 //! Largest plan (n = 16, A = 7, L = 4) and largest tables (1,024 slots in N and in each inbox). Both engines get the
 //! same tables and events and must answer the same. Each call is timed by itself, and what it changed is restored
 //! before the next, outside the timing; sixteen calls are a batch, and the smallest of many batches counts, less the
-//! smallest batch of empty timings. The engines take turns batch by batch.
+//! smallest batch of empty timings. The engines take turns batch by batch. A list of 256 events is timed as a whole, and
+//! so are its events as single calls one after the other; the smallest of many rounds counts, for an event.
 
 #[path = "../tests/reference/mod.rs"]
 mod reference;
@@ -20,6 +22,7 @@ const PLAN: Plan = Plan { rms: 16, acceptors: 7, leaders: 4, order: 0x0102 };
 const REFERENCE_PLAN: reference::Plan = reference::Plan { rms: 16, acceptors: 7, leaders: 4, order: 0x0102 };
 const SLOTS: usize = 1024;
 const BATCHES: usize = 1000;
+const ROUNDS: usize = 100;
 const CALLS: usize = 16;
 
 type Message = [u8; SLOT];
@@ -416,21 +419,22 @@ fn time_plain<A, B>(mut linked: impl FnMut() -> A, mut by_hand: impl FnMut() -> 
     Times { linked: first, by_hand: second }
 }
 
-/// The rehearsal by the linked event call, as the reference's `rehearse_by_calls` does it.
-fn rehearse(input: &[u8]) -> String {
-    let mut record = match input {
-        &[rms, acceptors, leaders, high, low, ..] => {
-            let order = u16::from_be_bytes([high, low]);
-            match paxos_commit::Record::fresh(Plan { rms, acceptors, leaders, order }, SLOTS, SLOTS) {
-                Ok(record) => record,
-                Err(_) => return "1\n".into(),
-            }
+/// The rehearsal of an input of whole events by the linked calls, as the reference's `rehearse` and `rehearse_by_calls` do
+/// it: all its events in one list, or a single call for each.
+fn rehearse(one_list: bool, input: &[u8]) -> String {
+    let Some((&[rms, acceptors, leaders, high, low], events)) = input.split_first_chunk() else { return "1\n".into() };
+    let plan = Plan { rms, acceptors, leaders, order: u16::from_be_bytes([high, low]) };
+    let Ok(mut record) = paxos_commit::Record::fresh(plan, SLOTS, SLOTS) else { return "1\n".into() };
+    let mut answers = vec![0; events.len() / 4];
+    if one_list {
+        record.run_bytes(events, &mut answers).expect("whole events");
+    } else {
+        for (event, answer) in events.chunks(4).zip(&mut answers) {
+            *answer = record.step_bytes(event).err().map_or(0, Refusal::number);
         }
-        _ => return "1\n".into(),
-    };
-    let mut out = String::with_capacity(3 * input.len() / 4 + 16);
-    for event in input[5..].chunks(4).take(8192) {
-        let number = record.step_bytes(event).err().map_or(0, Refusal::number);
+    }
+    let mut out = String::with_capacity(3 * answers.len() + 16);
+    for number in answers {
         if number >= 10 {
             out.push('1');
         }
@@ -469,19 +473,332 @@ fn events(accepted: bool) -> Vec<u8> {
     input
 }
 
-fn time_rehearsal(input: &[u8]) -> Times {
-    assert_eq!(rehearse(input), reference::rehearse_by_calls(input));
-    let once = |rehearse: &dyn Fn(&[u8]) -> String| {
-        let start = Instant::now();
-        black_box(rehearse(black_box(input)));
-        start.elapsed().as_nanos() as f64
-    };
-    let (mut first, mut second) = (f64::MAX, f64::MAX);
+/// By single calls, and by one list.
+fn time_rehearsal(input: &[u8]) -> [Times; 2] {
+    type Rehearse<'a> = &'a dyn Fn(&[u8]) -> String;
+    let ways: [Rehearse; 4] = [
+        &|input| rehearse(false, input),
+        &reference::rehearse_by_calls,
+        &|input| rehearse(true, input),
+        &reference::rehearse,
+    ];
+    let mut least = [f64::MAX; 4];
     for _ in 0..15 {
-        first = first.min(once(&rehearse));
-        second = second.min(once(&reference::rehearse_by_calls));
+        for (rehearse, least) in ways.iter().zip(&mut least) {
+            let start = Instant::now();
+            black_box(rehearse(black_box(input)));
+            *least = least.min(start.elapsed().as_nanos() as f64);
+        }
     }
-    Times { linked: first, by_hand: second }
+    for rehearse in &ways[1..] {
+        assert!(rehearse(input) == ways[0](input), "rehearsals differ");
+    }
+    let [linked, by_hand, linked_list, list_by_hand] = least;
+    [Times { linked, by_hand }, Times { linked: linked_list, by_hand: list_by_hand }]
+}
+
+/// The events of a list.
+const LIST: usize = 256;
+
+/// An event, or one that names a slot of N where this message stands.
+#[derive(Clone, Copy)]
+enum Wanted {
+    Plain(Event),
+    At(u8, u8, Message),
+}
+
+/// Events that do their whole work each time, and the messages that this needs.
+struct Row {
+    name: &'static str,
+    /// What stands in N, and in each inbox; anywhere, but the first of those that are sought in the last slot.
+    network: Vec<Message>,
+    inboxes: [Vec<Message>; 4],
+    sought: Vec<Message>,
+    sought_in_inbox: bool,
+    /// Unused slots that each inbox keeps.
+    room: usize,
+    /// The first of these 256 times; or all of them, in any order.
+    events: Vec<Wanted>,
+    /// Where not 0, each is accepted once only, so none comes twice: the list is all of them, so many in any order, then
+    /// the next so many.
+    once: usize,
+}
+
+/// On full tables, where a new message is refused and so an event can come again; or on tables with what is needed.
+fn rows(full: bool) -> Vec<Row> {
+    let row = |name, events: Vec<Wanted>| Row {
+        name,
+        network: Vec::new(),
+        inboxes: Default::default(),
+        sought: Vec::new(),
+        sought_in_inbox: false,
+        room: 0,
+        events,
+        once: 0,
+    };
+    let all = |inbox: &[Message]| [0; 4].map(|_| inbox.to_vec());
+    let plain = |events: Vec<Event>| events.into_iter().map(Wanted::Plain).collect::<Vec<_>>();
+    // From the fourth weight on, so that an event that comes 256 times is not of the first one.
+    let weights = || (0..16).map(|rm| (rm + 3) % 16);
+    let pairs = |processes: u8, messages: &[Message], kind: u8| {
+        let at = |who| messages.iter().map(move |&message| Wanted::At(kind, who, message));
+        (0..processes).rev().flat_map(at).collect::<Vec<_>>()
+    };
+    let decisions = vec![decision(2); 32];
+    let proposals: Vec<Message> = weights().map(|ins| message_2a(ins, 9 + ins, 1 + ins % 2)).collect();
+    let votes: Vec<Message> =
+        weights().flat_map(|ins| (0..7).rev().map(move |acc| message_2b(ins, acc, 9 + ins, 1 + ins % 2))).collect();
+    let begun: Vec<Message> = weights().map(|ins| message_1a(ins, 40 + ins)).collect();
+    // Four rising ballots, and at each of them four acceptors of each instance.
+    let rising: Vec<Message> =
+        (0..4).flat_map(|k| weights().map(move |ins| message_1a(ins, 40 + 20 * k + ins))).collect();
+    let voted = |&message: &Message| {
+        (0..7).filter(move |acc| (acc + message[1]) % 7 < 4).map(move |acc| Wanted::At(3, acc, message))
+    };
+    let risen: Vec<Wanted> = rising.iter().flat_map(voted).collect();
+    let came: Vec<Message> =
+        weights().flat_map(|ins| [message_1b(ins, 2, 20), message_2b(ins, 5, 21, 1 + ins % 2)]).collect();
+    // A leader's instances and ballots.
+    let owned = |leader: u8, count: u8| (0..count).map(move |k| ((k + 3) % 16, 12 + 4 * (k / 16) + leader));
+    let leading = |count: u8, event: fn(u8, u8, u8) -> Event| {
+        (0..4).flat_map(|l| owned(l, count).map(move |(ins, bal)| event(l, ins, bal))).collect::<Vec<_>>()
+    };
+    let reports = |count: u8, acceptors: u8| {
+        [0, 1, 2, 3].map(|l| {
+            let of = |(ins, bal)| (0..acceptors).map(move |acc| message_1b_vote(ins, acc, bal, acc, 1));
+            owned(l, count).flat_map(of).collect::<Vec<_>>()
+        })
+    };
+    let phase_1a = |leader, ins, bal| Event::Phase1a { leader, ins, bal };
+    let phase_2a = |leader, ins, bal| Event::Phase2a { leader, ins, bal };
+    let sent = |count: u8, message: fn(u8, u8) -> Message| {
+        (0..4).flat_map(|l| owned(l, count).map(move |(ins, bal)| message(ins, bal))).collect::<Vec<_>>()
+    };
+    let prepared = |acceptors: u8| {
+        (0..acceptors).flat_map(|acc| (0..16).map(move |ins| message_2b(ins, acc, 0, 1))).collect::<Vec<_>>()
+    };
+    let aborted: Vec<Message> = (0..4).map(|acc| message_2b(3, acc, 9, 2)).collect();
+    let each_weight = if full { 0 } else { 16 };
+    vec![
+        Row { once: each_weight, ..row("0 prepare", plain(weights().map(|rm| Event::Prepare { rm }).collect())) },
+        Row {
+            once: each_weight,
+            ..row("1 choose to abort", plain(weights().map(|rm| Event::ChooseToAbort { rm }).collect()))
+        },
+        Row { network: decisions.clone(), ..row("2 decision", pairs(16, &decisions, 2)) },
+        Row { network: proposals.clone(), sought: votes, ..row("3 on a 2a, its 2b in N", pairs(7, &proposals, 3)) },
+        Row { network: proposals.clone(), ..row("3 on a 2a", pairs(7, &proposals, 3)) },
+        if full {
+            Row { network: begun.clone(), ..row("3 on a 1a", pairs(7, &begun, 3)) }
+        } else {
+            Row { network: rising, once: 64, ..row("3 on a 1a", risen) }
+        },
+        Row {
+            network: came.clone(),
+            sought: came.clone(),
+            sought_in_inbox: true,
+            ..row("4 receipt, in the inbox", pairs(4, &came, 4))
+        },
+        Row { network: came.clone(), ..row("4 receipt", pairs(4, &came, 4)) },
+        Row { sought: sent(16, message_1a), ..row("5 phase 1a, in N", plain(leading(16, phase_1a))) },
+        row("5 phase 1a", plain(leading(64, phase_1a))),
+        Row { inboxes: reports(8, 3), ..row("6 phase 2a, no majority", plain(leading(8, phase_2a))) },
+        if full {
+            Row { inboxes: reports(8, 4), ..row("6 phase 2a", plain(leading(8, phase_2a))) }
+        } else {
+            Row { inboxes: reports(64, 4), once: LIST, ..row("6 phase 2a", plain(leading(64, phase_2a))) }
+        },
+        Row {
+            inboxes: reports(64, 4),
+            network: sent(64, |ins, bal| message_2a(ins, bal, 1)),
+            room: 64,
+            once: LIST,
+            ..row("6 phase 2a, in N", plain(leading(64, phase_2a)))
+        },
+        Row {
+            inboxes: all(&prepared(4)),
+            sought: vec![decision(1)],
+            ..row("7 commit, in N", plain((0..4).rev().map(|leader| Event::Commit { leader }).collect()))
+        },
+        Row {
+            inboxes: all(&prepared(3)),
+            ..row("7 commit, no majority", plain((0..4).rev().map(|leader| Event::Commit { leader }).collect()))
+        },
+        Row {
+            inboxes: all(&aborted),
+            sought: vec![decision(2)],
+            ..row("8 abort, in N", plain((0..4).rev().map(|leader| Event::Abort { leader }).collect()))
+        },
+        row("no event", (0..=255).map(|low| Wanted::Plain(Event::Prepare { rm: 16 + low % 240 })).collect()),
+    ]
+}
+
+/// Rows of several kinds on one record. Weights 0 to 7 prepare and choose, the others take a decision.
+fn mixed() -> Vec<Row> {
+    let several = |name, kinds: &[&str]| {
+        let mut mixed = Row {
+            name,
+            network: Vec::new(),
+            inboxes: Default::default(),
+            sought: Vec::new(),
+            sought_in_inbox: false,
+            room: 0,
+            events: Vec::new(),
+            once: 0,
+        };
+        for row in rows(true).into_iter().filter(|row| kinds.contains(&row.name)) {
+            mixed.network.extend(row.network);
+            mixed.network.extend(row.sought.iter().filter(|_| !row.sought_in_inbox));
+            for (inbox, of_row) in mixed.inboxes.iter_mut().zip(row.inboxes) {
+                inbox.extend(of_row);
+                inbox.extend(row.sought.iter().filter(|_| row.sought_in_inbox));
+            }
+            let events: Vec<Wanted> = row
+                .events
+                .into_iter()
+                .filter(|event| match event {
+                    Wanted::Plain(Event::Prepare { rm } | Event::ChooseToAbort { rm }) => *rm < 8,
+                    Wanted::At(2, rm, _) => *rm >= 8,
+                    _ => true,
+                })
+                .collect();
+            // Each row as often as the others.
+            mixed.events.extend((0..240).map(|at| events[at % events.len()]));
+        }
+        mixed
+    };
+    let upto_5 = [
+        "0 prepare",
+        "1 choose to abort",
+        "2 decision",
+        "3 on a 2a, its 2b in N",
+        "3 on a 1a",
+        "4 receipt, in the inbox",
+        "5 phase 1a, in N",
+        "5 phase 1a",
+    ];
+    let leaders = ["6 phase 2a, no majority", "7 commit, in N", "8 abort, in N"];
+    vec![several("kinds 0 to 5 mixed", &upto_5), several("all kinds mixed", &[&upto_5[..], &leaders[..]].concat())]
+}
+
+/// A row on tables with so many slots, all used, or only by what it needs: the tables and a list.
+fn scene(row: &Row, slots: usize, full: bool, changing: bool) -> (Tables, Vec<u8>) {
+    let mut random = Random(0x2545_F491_4F6C_DD1D);
+    let mut tables = Tables::fresh();
+    tables.network.truncate(SLOT * slots);
+    tables.inboxes.truncate(PLAN.inboxes_len(slots));
+    let count = if changing { row.sought.len() } else { row.sought.len().min(1) };
+    let sought = &row.sought[..count];
+    let mut put = |part: &mut [u8], needed: &[Message], sought: &[Message], room: usize| {
+        let mut list: Vec<Message> = needed.to_vec();
+        list.extend(sought);
+        while full && list.len() < slots - room {
+            list.push(random.message());
+        }
+        for at in (1..list.len()).rev() {
+            list.swap(at, random.below(at + 1));
+        }
+        if let (false, [sought]) = (changing, sought) {
+            let at = list.iter().position(|message| message == sought).unwrap_or(0);
+            let end = list.len() - 1;
+            list.swap(at, end);
+        }
+        for (slot, message) in part.chunks_exact_mut(SLOT).zip(list) {
+            slot.copy_from_slice(&message);
+        }
+    };
+    let none = &[][..];
+    put(&mut tables.network, &row.network, if row.sought_in_inbox { none } else { sought }, 0);
+    for (leader, needed) in (0..).zip(&row.inboxes) {
+        let range = PLAN.inbox_range(tables.inboxes.len(), leader).unwrap_or(0..0);
+        put(&mut tables.inboxes[range], needed, if row.sought_in_inbox { sought } else { none }, row.room);
+    }
+    if full {
+        for (at, vote) in tables.votes.chunks_exact_mut(3).enumerate() {
+            vote.fill((at % 3) as u8);
+        }
+    }
+    let mut bytes_of = |event: &Wanted| match event {
+        Wanted::Plain(event) => event.bytes(),
+        Wanted::At(kind, who, message) => {
+            let slots = (0..).zip(tables.network.chunks_exact(SLOT)).filter(|(_, slot)| slot == message);
+            let slots: Vec<u16> = slots.map(|(at, _)| at).collect();
+            let [high, low] = slots[random.below(slots.len())].to_be_bytes();
+            [*kind, *who, high, low]
+        }
+    };
+    let events: Vec<[u8; 4]> = row.events.iter().map(&mut bytes_of).collect();
+    let mut list = Vec::new();
+    if row.once > 0 {
+        for part in events.chunks(row.once) {
+            let from = list.len();
+            list.extend(part);
+            for at in (1..part.len()).rev() {
+                list.swap(from + at, from + random.below(at + 1));
+            }
+        }
+    } else {
+        list.extend((0..LIST).map(|_| events[if changing { random.below(events.len()) } else { 0 }]));
+    }
+    assert!(list.len() == LIST || row.once == 16, "{}", row.name);
+    (tables, list.into_flattened())
+}
+
+fn linked_list(tables: &mut Tables, events: &[u8], answers: &mut [u8]) -> u8 {
+    let Tables { states, votes, network, inboxes } = tables;
+    let (plan, events) = (*black_box(&PLAN), black_box(events));
+    paxos_commit::run(plan, states, votes, network, inboxes, events, answers).err().map_or(0, Refusal::number)
+}
+
+fn linked_singles(tables: &mut Tables, events: &[u8], answers: &mut [u8]) -> u8 {
+    for (event, answer) in events.as_chunks().0.iter().zip(answers) {
+        *answer = linked(false, tables, event).err().map_or(0, Refusal::number);
+    }
+    0
+}
+
+#[inline(never)]
+fn list_by_hand(tables: &mut Tables, events: &[u8], answers: &mut [u8]) -> u8 {
+    let Tables { states, votes, network, inboxes } = tables;
+    let (plan, events) = (*black_box(&REFERENCE_PLAN), black_box(events));
+    reference::run(plan, states, votes, network, inboxes, events, answers).err().unwrap_or(0)
+}
+
+/// Nanoseconds for an event of a list: as linked single calls, as the linked list, as the list by hand; and what was
+/// answered.
+fn time_list(old: &Tables, events: &[u8]) -> ([f64; 3], String) {
+    type Way = fn(&mut Tables, &[u8], &mut [u8]) -> u8;
+    const WAYS: [Way; 3] = [linked_singles, linked_list, list_by_hand];
+    let count = events.len() / 4;
+    let done = WAYS.map(|way| {
+        let (mut tables, mut answers) = (old.clone(), vec![0xAA; count]);
+        assert_eq!(way(&mut tables, events, &mut answers), 0);
+        (answers, tables)
+    });
+    assert!(done[1] == done[0] && done[2] == done[0], "answers or tables differ");
+    let mut said: Vec<u8> = done[0].0.clone();
+    said.sort_unstable();
+    let said = said.chunk_by(|a, b| a == b).map(|part| match part {
+        [0, ..] => format!("{} accepted", part.len()),
+        _ => format!("{} × {}", part.len(), part[0]),
+    });
+    let said = said.collect::<Vec<_>>().join(", ");
+
+    let (mut tables, mut answers) = (old.clone(), vec![0xAA; count]);
+    let mut least = [f64::MAX; 3];
+    for _ in 0..ROUNDS {
+        for (number, (way, least)) in WAYS.iter().zip(&mut least).enumerate() {
+            // Single calls take longest.
+            for _ in 0..if number == 0 { 1 } else { 3 } {
+                tables.restore(old);
+                let tables = black_box(&mut tables);
+                let start = Instant::now();
+                black_box(way(tables, events, &mut answers));
+                *least = least.min(start.elapsed().as_nanos() as f64 / count as f64);
+            }
+        }
+    }
+    (least, said)
 }
 
 /// All ratios: the part of the report, what was timed, the ratio.
@@ -620,10 +937,8 @@ impl Report {
         );
         self.line("write a 2a", 1.0, 1, times);
         for (name, map) in [("length of a 2b", 0x3B), ("length of an unknown map", 0x32)] {
-            let times = time_plain(
-                || paxos_commit::Message::length(*black_box(&map)),
-                || length_by_hand(*black_box(&map)),
-            );
+            let times =
+                time_plain(|| paxos_commit::Message::length(*black_box(&map)), || length_by_hand(*black_box(&map)));
             self.line(name, 1.0, 1, times);
         }
         self.deliveries();
@@ -638,11 +953,61 @@ impl Report {
         );
         self.line("open, largest tables", 1.0, 0, times);
         self.endings();
-        println!(
-            "\n### The rehearsal of 8,192 events\n\n| events | ratio | linked, ms | Rust, ms |\n|---|---|---|---|"
-        );
-        self.line("mixed, most refused", 1e6, 2, time_rehearsal(&events(false)));
-        self.line("all accepted", 1e6, 2, time_rehearsal(&events(true)));
+        println!();
+    }
+
+    /// Lists of 256 events.
+    fn lists(&mut self) {
+        for (slots, full, title) in [
+            (SLOTS, true, "full tables, 1,024 slots"),
+            (SLOTS / 2, true, "full tables, 512 slots"),
+            (SLOTS, false, "needed messages only"),
+        ] {
+            println!("### The list call, {title}\n");
+            println!(
+                "Single calls' time / list's time × **list's ratio** (single calls / list / Rust's list, ns for an event)\n"
+            );
+            if !full {
+                println!(
+                    "Here an event of kind 0, 1, 3 on a 1a or 6 is accepted once, so no event of these rows comes twice; in \
+                     mixed lists it does, and is 12. Kinds 0 and 1 are lists of 16 events, one for each weight, so each \
+                     bears a sixteenth of judging the tables; in the others it is a 256th.\n"
+                );
+            }
+            println!(
+                "| events | the same event 256 times | answers | changing events | answers |\n|---|---|---|---|---|"
+            );
+            for row in rows(full).into_iter().chain(mixed()) {
+                print!("| {} |", row.name);
+                for changing in [false, true] {
+                    if !changing && (row.once > 0 || row.name.ends_with("mixed")) {
+                        print!(" | |");
+                        continue;
+                    }
+                    let (tables, events) = scene(&row, slots, full, changing);
+                    let ([single, list, by_hand], said) = time_list(&tables, &events);
+                    let times = Times { linked: list, by_hand };
+                    let which = if changing { "changing" } else { "the same" };
+                    self.keep(format!("The list call, {title}, {which}"), row.name, &times);
+                    print!(
+                        " {:.1} × **{:.2}** ({single:.0} / {list:.1} / {by_hand:.1}) | {said} |",
+                        single / list,
+                        times.ratio()
+                    );
+                }
+                println!();
+            }
+            println!();
+        }
+    }
+
+    fn rehearsals(&mut self) {
+        println!("### The rehearsal of 8,192 events\n\n| events | ratio | linked, ms | Rust, ms |\n|---|---|---|---|");
+        for (name, events) in [("mixed, most refused", events(false)), ("all accepted", events(true))] {
+            let [singles, list] = time_rehearsal(&events);
+            self.line(&format!("{name}: single calls"), 1e6, 2, singles);
+            self.line(&format!("{name}: one list"), 1e6, 3, list);
+        }
         println!();
     }
 
@@ -670,9 +1035,23 @@ fn main() {
     if !std::env::args().any(|word| word == "--bench") {
         return;
     }
+    let part = std::env::args().skip(1).find(|word| !word.starts_with('-'));
+    let wanted = |name: &str| part.as_deref().is_none_or(|part| part == name);
     let mut report = Report::default();
-    report.steps(false, "Event call");
-    report.steps(true, "The role's own call");
-    report.others();
+    if wanted("events") {
+        report.steps(false, "Event call");
+    }
+    if wanted("roles") {
+        report.steps(true, "The role's own call");
+    }
+    if wanted("others") {
+        report.others();
+    }
+    if wanted("lists") {
+        report.lists();
+    }
+    if wanted("rehearsals") {
+        report.rehearsals();
+    }
     report.summary();
 }

@@ -12,7 +12,8 @@
     feature = "rm",
     feature = "acceptor",
     feature = "leader",
-    feature = "record"
+    feature = "record",
+    feature = "batch"
 ))]
 use crate::plan::Plan;
 
@@ -137,6 +138,26 @@ unsafe extern "C" {
         states: *const u8,
         states_len: usize,
     ) -> u32;
+
+    #[cfg(feature = "batch")]
+    fn paxos_commit_run(
+        rms: u8,
+        acceptors: u8,
+        leaders: u8,
+        order: u16,
+        states: *mut u8,
+        states_len: usize,
+        votes: *mut u8,
+        votes_len: usize,
+        network: *mut u8,
+        network_len: usize,
+        inboxes: *mut u8,
+        inboxes_len: usize,
+        events: *const u8,
+        events_len: usize,
+        answers: *mut u8,
+        answers_len: usize,
+    ) -> u8;
 }
 
 #[cfg(feature = "message")]
@@ -277,4 +298,38 @@ pub fn step(
 pub fn ending(plan: Plan, states: &[u8]) -> u32 {
     // SAFETY: `states` is a slice.
     unsafe { paxos_commit_ending(plan.rms, plan.acceptors, plan.leaders, plan.order, states.as_ptr(), states.len()) }
+}
+
+#[cfg(feature = "batch")]
+#[inline]
+pub fn run(
+    plan: Plan,
+    states: &mut [u8],
+    votes: &mut [u8],
+    network: &mut [u8],
+    inboxes: &mut [u8],
+    events: &[u8],
+    answers: &mut [u8],
+) -> u8 {
+    // SAFETY: six slices, of which the five that may be written overlap nothing.
+    unsafe {
+        paxos_commit_run(
+            plan.rms,
+            plan.acceptors,
+            plan.leaders,
+            plan.order,
+            states.as_mut_ptr(),
+            states.len(),
+            votes.as_mut_ptr(),
+            votes.len(),
+            network.as_mut_ptr(),
+            network.len(),
+            inboxes.as_mut_ptr(),
+            inboxes.len(),
+            events.as_ptr(),
+            events.len(),
+            answers.as_mut_ptr(),
+            answers.len(),
+        )
+    }
 }

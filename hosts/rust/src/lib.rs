@@ -1,9 +1,9 @@
 //! Safe calls of the proved Paxos Commit record.
 //!
 //! The calls are written in Rattle and proved to answer and store exactly what document 01 says, with the order number
-//! of document 02, Paper 1. They stand in static libraries; this crate links them, gives them Rust types, and adds nothing
-//! to what they decide. Tables, events and messages are any bytes of any length: a call accepts, or answers one
-//! [`Refusal`] and changes no byte.
+//! and the list of document 02, Papers 1 and 2. They stand in static libraries; this crate links them, gives them Rust
+//! types, and adds nothing to what they decide. Tables, events and messages are any bytes of any length: a call accepts,
+//! or answers one [`Refusal`] and changes no byte.
 //!
 //! | Feature | Static library | Calls |
 //! |---|---|---|
@@ -13,9 +13,10 @@
 //! | `acceptor` | `libhost_acceptor.a` | [`acceptor_step`] |
 //! | `leader` | `libhost_leader.a` | [`leader_step`] |
 //! | `record` | `libhost_record.a` | [`open`], [`step`], [`ending`], and [`Record`] over them |
+//! | `batch` | `libhost_batch.a` | [`run`]; with `record`, [`Record::run`] over it |
 //!
 //! A host of one role takes that role's feature, `deliver` for what comes from the wire, and `message` for what goes; all
-//! six are the default.
+//! seven are the default.
 //!
 //! Document 01's example, an order of one weight that ends committed:
 //!
@@ -43,6 +44,8 @@
 #![warn(missing_docs)]
 
 mod answer;
+#[cfg(feature = "batch")]
+mod batch;
 mod event;
 #[allow(unsafe_code)]
 mod ffi;
@@ -54,11 +57,15 @@ mod refusal;
 mod roles;
 
 pub use answer::Answer;
+#[cfg(feature = "batch")]
+pub use batch::run;
 pub use event::Event;
 #[cfg(feature = "deliver")]
 pub use message::deliver;
 pub use message::{Decision, Fields, Message, Value, Vote, Written};
 pub use plan::{MAX_SLOTS, Plan, SLOT, State, slots_len};
+#[cfg(all(feature = "record", feature = "batch"))]
+pub use record::Answers;
 #[cfg(feature = "record")]
 pub use record::{Ending, Record, ending, open, step};
 pub use refusal::Refusal;

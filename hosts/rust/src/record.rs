@@ -4,6 +4,11 @@ use crate::answer::refused;
 use crate::plan::slots_len;
 use crate::{Answer, Event, Plan, Refusal, SLOT, ffi};
 
+#[cfg(feature = "batch")]
+mod list;
+#[cfg(feature = "batch")]
+pub use list::Answers;
+
 /// Opens a record on lent tables: every byte becomes 0. It refuses `BadPlan` and `BadLengths`, and looks at
 /// nothing else.
 #[inline]

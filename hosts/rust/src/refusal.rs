@@ -45,11 +45,13 @@ pub enum Refusal {
     OutOfRange = 17,
     /// 18: nothing else is wrong, but the message has another order number.
     OtherOrder = 18,
+    /// 19: a list that is not whole events, or has not one byte of answers for each.
+    BadList = 19,
 }
 
 impl Refusal {
     /// All refusals, by number.
-    pub const ALL: [Refusal; 18] = [
+    pub const ALL: [Refusal; 19] = [
         Refusal::BadPlan,
         Refusal::BadLengths,
         Refusal::BadStates,
@@ -68,14 +70,15 @@ impl Refusal {
         Refusal::WrongLength,
         Refusal::OutOfRange,
         Refusal::OtherOrder,
+        Refusal::BadList,
     ];
 
-    /// The number in documents 01 and 02, 1 to 18.
+    /// The number in documents 01 and 02, 1 to 19.
     pub const fn number(self) -> u8 {
         self as u8
     }
 
-    /// The refusal with this number; `None` for 0 and for numbers above 18.
+    /// The refusal with this number; `None` for 0 and for numbers above 19.
     #[inline]
     pub const fn from_number(number: u8) -> Option<Refusal> {
         // One arm for each, since the compiler sees then that a refusal is its number.
@@ -98,6 +101,7 @@ impl Refusal {
             16 => Refusal::WrongLength,
             17 => Refusal::OutOfRange,
             18 => Refusal::OtherOrder,
+            19 => Refusal::BadList,
             _ => return None,
         })
     }
@@ -124,6 +128,7 @@ impl fmt::Display for Refusal {
             Refusal::WrongLength => "the length is not the message's",
             Refusal::OutOfRange => "a field of the message is out of range",
             Refusal::OtherOrder => "the message is of another order",
+            Refusal::BadList => "the list is not whole events with an answer each",
         };
         write!(f, "{words} ({})", self.number())
     }

@@ -50,3 +50,17 @@ fn record() {
     assert_eq!(record.step(Event::ChooseToAbort { rm: 0 }), Ok(Answer::Slot(0)));
     assert_eq!(record.ending(), Ok(Ending::Aborted));
 }
+
+#[cfg(feature = "batch")]
+#[test]
+fn batch() {
+    let (mut states, mut network, mut answers) = ([0], [0; 8], [0xAA; 3]);
+    let events = [Event::Vote { acceptor: 0, slot: 0 }, Event::ChooseToAbort { rm: 0 }, Event::Prepare { rm: 0 }];
+    let events = events.map(Event::bytes);
+    let mut list =
+        |events: &[u8], answers: &mut [u8]| run(ONE, &mut states, &mut [0; 3], &mut network, &mut [], events, answers);
+    assert_eq!(list(events.as_flattened(), &mut answers), Ok(()));
+    assert_eq!(answers, [8, 0, 12]);
+    assert_eq!(list(&[], &mut answers), Err(Refusal::BadList));
+    assert_eq!(states, [3]);
+}

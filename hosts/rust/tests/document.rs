@@ -1,5 +1,5 @@
 //! Document 01's examples, its rehearsal and its limits through this crate, in an order with a number (document 02, Paper
-//! 1), and what is refused of another order.
+//! 1), what is refused of another order, and lists (Paper 2).
 
 use paxos_commit::*;
 
@@ -113,6 +113,94 @@ fn rehearsal() {
     assert_eq!(record.slot(1024), None);
 }
 
+/// The rehearsal's events as one list: the answers and the tables of the single calls.
+#[test]
+fn rehearsal_as_a_list() {
+    let events = [[0, 0, 0, 0], [3, 0, 0, 0], [4, 0, 0, 1], [7, 0, 0, 0], [2, 0, 0, 2], [1, 0, 0, 0]];
+    let (mut single, mut list) = (Record::fresh(ONE, 16, 16).unwrap(), Record::fresh(ONE, 16, 16).unwrap());
+    for event in events {
+        let _ = single.step_bytes(&event);
+    }
+    let mut answers = [0xAA; 6];
+    assert_eq!(list.run_bytes(events.as_flattened(), &mut answers), Ok(()));
+    assert_eq!((answers, &list), ([0, 0, 0, 0, 0, 12], &single));
+
+    // Every refusal of an event, and bytes that are no event, in the midst of others that are accepted.
+    let (prepare, abort) = (Event::Prepare { rm: 0 }, Event::ChooseToAbort { rm: 0 });
+    let beyond = Event::Vote { acceptor: 0, slot: 9 };
+    let own = Event::Receipt { leader: 0, slot: 0 };
+    let not_owned = Event::Phase1a { leader: 0, ins: 0, bal: 0 };
+    let begun = Event::Phase1a { leader: 0, ins: 0, bal: 1 };
+    let mut list = Record::fresh(ONE, 1, 0).unwrap();
+    let mut answers = list.run(&[beyond, prepare, abort, own, not_owned, begun, Event::Prepare { rm: 1 }]).unwrap();
+    assert_eq!((answers.len(), answers.bytes()), (7, &[8, 0, 12, 9, 10, 13, 7][..]));
+    assert_eq!((answers.next(), answers.next_back()), (Some(Err(Refusal::NoMessage)), Some(Err(Refusal::BadEvent))));
+    assert_eq!((answers.len(), answers.collect::<Vec<_>>()[0]), (5, Ok(())));
+    assert_eq!(list.states(), [1]);
+}
+
+/// Where the whole list is refused nothing changes; rows 1 to 6 come before 19. An empty list is judged as any other.
+#[test]
+fn refused_lists() {
+    let plan = Plan { rms: 2, acceptors: 3, leaders: 2, order: 0x0102 };
+    let event = Event::Prepare { rm: 1 }.bytes();
+    let mut record = Record::fresh(plan, 4, 4).unwrap();
+    let fresh = record.clone();
+    for (events, answers) in [(1, 0), (3, 0), (3, 1), (4, 0), (4, 2), (4, 4), (5, 1), (8, 1), (8, 8), (0, 1)] {
+        let mut answers = vec![0xAA; answers];
+        let bytes: Vec<u8> = event.iter().copied().cycle().take(events).collect();
+        assert_eq!(record.run_bytes(&bytes, &mut answers), Err(Refusal::BadList), "{events} {}", answers.len());
+        assert!(answers.iter().all(|&answer| answer == 0xAA) && record == fresh);
+    }
+    assert_eq!(record.run_bytes(&[], &mut []), Ok(()));
+    assert_eq!(record.run(&[]).unwrap().count(), 0);
+    assert_eq!(record, fresh);
+
+    for (table, at, byte, refusal) in [
+        (0, 1, 4, Refusal::BadStates),
+        (1, 17, 3, Refusal::BadVotes),
+        (2, 31, 1, Refusal::BadNetwork),
+        (3, 63, 1, Refusal::BadInbox),
+    ] {
+        for (events, count) in [(&event[..], 1), (&event[..], 2), (&event[..3], 1), (&[], 0)] {
+            let mut tables = fresh.clone().into_tables();
+            tables[table][at] = byte;
+            let [states, votes, network, inboxes] = tables;
+            let mut damaged = Record::of(plan, states, votes, network, inboxes);
+            let (before, mut answers) = (damaged.clone(), vec![0xAA; count]);
+            assert_eq!(damaged.run_bytes(events, &mut answers), Err(refusal));
+            assert!(answers.iter().all(|&answer| answer == 0xAA) && damaged == before);
+        }
+    }
+    let [mut states, mut votes, mut network, mut inboxes] = fresh.into_tables();
+    inboxes.pop();
+    let mut answers = [0xAA];
+    assert_eq!(
+        run(plan, &mut states, &mut votes, &mut network, &mut inboxes, &event, &mut answers),
+        Err(Refusal::BadLengths)
+    );
+    assert_eq!((answers, states), ([0xAA], vec![0, 0]));
+}
+
+/// A list has no limit: far more events than N has slots.
+#[test]
+fn a_long_list() {
+    let plan = Plan { rms: 16, acceptors: 1, leaders: 4, order: 0x0102 };
+    let mut record = Record::fresh(plan, MAX_SLOTS, 0).unwrap();
+    let owned = |number: usize| Event::Phase1a {
+        leader: (number / 16 % 4) as u8,
+        ins: (number % 16) as u8,
+        bal: (number / 16) as u8,
+    };
+    let events: Vec<Event> = (64..4096).map(owned).chain((64..4096).map(owned)).collect();
+    let answers: Vec<_> = record.run(&events).unwrap().collect();
+    // Those of the first 1,024 that fit are accepted, and found again.
+    for (at, answer) in answers.iter().enumerate() {
+        let expected = if at % 4032 < MAX_SLOTS { Ok(()) } else { Err(Refusal::NetworkFull) };
+        assert_eq!(*answer, expected, "{at}");
+    }
+}
+
 /// The same order by a host for each role, which share only the messages that they send each other.
 #[test]
 fn a_host_for_each_role() {
@@ -187,6 +275,7 @@ fn limits() {
         assert_eq!(acceptor_step(plan, &mut [], &mut [], &[]), Err(Refusal::BadPlan));
         assert_eq!(leader_step(plan, &mut [], &mut [], &[]), Err(Refusal::BadPlan));
         assert_eq!(step(plan, &mut [], &mut [], &mut [], &mut [], &[]), Err(Refusal::BadPlan));
+        assert_eq!(run(plan, &mut [], &mut [], &mut [], &mut [], &[0], &mut []), Err(Refusal::BadPlan));
         assert_eq!(deliver(plan, &mut [], &[]), Err(Refusal::BadPlan));
         assert_eq!(ending(plan, &[]), Err(Refusal::BadPlan));
     }
@@ -275,6 +364,6 @@ fn refusals_by_number_and_in_words() {
         let error: &dyn std::error::Error = &refusal;
         assert!(error.to_string().ends_with(&format!("({number})")));
     }
-    assert_eq!((Refusal::from_number(0), Refusal::from_number(19)), (None, None));
+    assert_eq!((Refusal::from_number(0), Refusal::from_number(20)), (None, None));
     assert_eq!(Refusal::NotEnabled.to_string(), "not enabled (12)");
 }

@@ -3,7 +3,7 @@ use mathlib.Core.Path.{sym, _∙_, ap}
 use borrow.Author.Needs.{needs}
 use Rattle.message.proofs.Guards.{passed, failed}
 use Rattle.change.specs.Change.{judgedOutcome}
-use Rattle.batch.proofs.Running.{run-refused, run-cut, run-finished}
+use Rattle.batch.proofs.Running.{run-stopped, run-cut, run-finished}
 use Rattle.batch.proofs.run.Statement.{statement}
 use Rattle.batch.proofs.run.Tie as tie
 
@@ -22,7 +22,7 @@ returns c =
 
 -- the judgement refuses
 returns-2 : tie.Need-returns-2
-returns-2 c = run-refused _ _ _ _ _ (sym (ap judgedOutcome (c .before .judged .given .1)) ∙ c .before .before .before .judge .ensures)
+returns-2 c = run-stopped _ _ _ _ _ (sym (ap judgedOutcome (c .before .judged .given .1)) ∙ c .before .before .before .judge .ensures)
 
 -- the events were run
 run-events-requires : tie.Need-run-events-requires

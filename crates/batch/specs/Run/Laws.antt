@@ -1,25 +1,30 @@
 -- Laws of the list call's definition.
---     is-list                        row 19 in numbers: a list has four bytes for each answer
+--     is-list, no-list, a-list       row 19 in numbers: a list has four bytes for each answer; in words
 --     events-at                      a list from event i on: that event, then the list from the next one on
 --     calls-append, left-append      the single calls of two lists of events, and the tables that they leave
 --     events-append                  the events of two lists of whole events, one after the other
+--     calls-keep                     what each call keeps, all of them keep
+--     finished-sound, finished-halves     a sound record stays so; two lists one after the other
 --     answer-judged                  what the call answers
+--     run-sound                      an accepted call found the record sound
 --     run-whole, run-bad             on a sound record and a list; on a record that is not sound
 --     run-accepted, run-refused      the two cases of the call
 -- Assumes nothing.
 use Prim.Native.Nat.{ℕ, zero, suc, _+_, _*_, _/_, _%_, _≤_}
-use mathlib.Core.Bool.{true}
-use mathlib.Core.List.{List, [], _∷_, _++_}
+use mathlib.Core.Bool.{Bool, true, false}
+use mathlib.Core.List.{List, [], _∷_, _++_, map-append}
+use mathlib.Core.Logic.{_⊎_, inl, inr, ⊎-elim}
 use mathlib.Core.Path.{_≡_, refl, sym, _∙_, ap}
 use native.Mathlib.Omega.{arith}
 use lib.Dec.{eqb}
 use lib.ListN.{length, take, drop, length-drop}
 use lib.Seq.{drop-drop}
-use borrow.Author.Tests.{eqb-true, eq-eqb}
+use borrow.Author.Tests.{eqb-true, eqb-false, eq-eqb}
 use Rattle.message.specs.Outcome.Laws.{accepted-not-refused, both}
 use Rattle.message.specs.declared.Plan.{Plan}
-use Rattle.message.specs.Outcome.{Outcome, accepted, refused, andThen, refuseIf}
+use Rattle.message.specs.Outcome.{Outcome, accepted, refused, andThen, refuseIf, numberOf}
 use Rattle.record.specs.Record.{Tables, RecordStep, recordJudged, recordStep}
+use Rattle.conformance.specs.Theorems.{record-sound}
 use Rattle.batch.specs.Run.{eventsOf, singleCalls, tablesLeft, Run, isList, runJudged, finishedRun, settledRun, recordRun}
 
 pub is-list : (events answers : List ℕ) → isList events answers ≡ true → length events ≡ 4 * length answers
@@ -28,6 +33,19 @@ is-list events answers is =
     let cut = eqb-true (length events % 4) 0 (parts .0) in
     let each = eqb-true (length answers) (length events / 4) (parts .1) in
     omega arith
+
+module _ (events answers : List ℕ) where
+  pub no-list : isList events answers ≡ false → (length events % 4 ≡ 0 → ⊥) ⊎ (length answers ≡ length events / 4 → ⊥)
+  no-list h = go (eqb (length events % 4) 0) refl
+    where
+      go : (whole : Bool) → eqb (length events % 4) 0 ≡ whole → (length events % 4 ≡ 0 → ⊥) ⊎ (length answers ≡ length events / 4 → ⊥)
+      go false e = inl (eqb-false _ _ e)
+      go true e = inr (eqb-false _ _ (rw e at h))
+
+  pub a-list : isList events answers ≡ true → (length events % 4 ≡ 0 → ⊥) ⊎ (length answers ≡ length events / 4 → ⊥) → ⊥
+  a-list h =
+      let parts = both (eqb (length events % 4) 0) (eqb (length answers) (length events / 4)) h in
+      ⊎-elim (λ n. n (eqb-true _ _ (parts .0))) (λ n. n (eqb-true _ _ (parts .1)))
 
 events-first : (bytes : List ℕ) → 4 ≤ length bytes → eventsOf bytes ≡ take 4 bytes ∷ eventsOf (drop 4 bytes)
 events-first (a ∷ b ∷ c ∷ d ∷ rest) h = refl
@@ -62,6 +80,32 @@ pub left-append : (t : Tables) (a b : List RecordStep) → tablesLeft t (a ++ b)
 left-append t [] b = refl
 left-append t (s ∷ ss) b = left-append (s .tables) ss b
 
+-- what each call keeps, all of them keep
+pub calls-keep : (p : Plan) (P : Tables → Type 0) → ((t : Tables) (e : List ℕ) → P t → P (recordStep p t e .tables))
+    → (t : Tables) → P t → (es : List (List ℕ)) → P (tablesLeft t (singleCalls p t es))
+calls-keep p P step t h [] = h
+calls-keep p P step t h (e ∷ es) = calls-keep p P step (recordStep p t e .tables) (step t e h) es
+
+pub finished-sound : (p : Plan) (t : Tables) → recordJudged p t ≡ accepted tt → (events : List ℕ) → recordJudged p (finishedRun p t events .tables) ≡ accepted tt
+unfolding finishedRun
+finished-sound p t ok events = calls-keep p (λ u. recordJudged p u ≡ accepted tt) (record-sound p) t ok (eventsOf events)
+
+-- the calls of two lists
+pub finished-halves : (p : Plan) (t : Tables) (n : ℕ) (first second : List ℕ) → length first ≡ 4 * n
+    → finishedRun p t (first ++ second)
+    ≡ record {
+      answer = finishedRun p (finishedRun p t first .tables) second .answer;
+      tables = finishedRun p (finishedRun p t first .tables) second .tables;
+      answers = finishedRun p t first .answers ++ finishedRun p (finishedRun p t first .tables) second .answers;
+    }
+unfolding finishedRun
+finished-halves p t n first second whole =
+    let one : List RecordStep = singleCalls p t (eventsOf first) in
+    let two : List RecordStep = singleCalls p (tablesLeft t one) (eventsOf second) in
+    let calls : singleCalls p t (eventsOf (first ++ second)) ≡ one ++ two =
+    ap (singleCalls p t) (events-append n first second whole) ∙ calls-append p t (eventsOf first) (eventsOf second) in
+    rw (calls, left-append t one two, map-append (λ (s : RecordStep). numberOf (s .answer)) one two)
+
 module _ (p : Plan) (t : Tables) (events answers : List ℕ) where
   by-cases : (o : Outcome (Unit {0}))
       → ((settledRun (finishedRun p t events) t answers o .answer ≡ accepted tt) → settledRun (finishedRun p t events) t answers o ≡ finishedRun p t events)
@@ -88,13 +132,20 @@ module _ (p : Plan) (t : Tables) (events answers : List ℕ) where
   unfolding recordRun
   run-refused = by-cases (runJudged p t events answers) .1
 
+  pub run-bad : (k : ℕ) → recordJudged p t ≡ refused k → recordRun p t events answers ≡ record { answer = refused k; tables = t; answers = answers }
+  unfolding recordRun runJudged andThen
+  run-bad k h = rw h
+
+  pub run-sound : recordRun p t events answers .answer ≡ accepted tt → recordJudged p t ≡ accepted tt
+  run-sound is = go (recordJudged p t) refl
+    where
+      go : (o : Outcome (Unit {0})) → recordJudged p t ≡ o → o ≡ accepted tt
+      go (accepted u) h = refl
+      go (refused k) h = absurd (accepted-not-refused (sym (ap (λ (r : Run). r .answer) (run-bad k h)) ∙ is))
+
   pub run-whole : recordJudged p t ≡ accepted tt → length events ≡ 4 * length answers → recordRun p t events answers ≡ finishedRun p t events
   unfolding recordRun runJudged andThen refuseIf
   run-whole ok size =
       let cut : length events % 4 ≡ 0 = omega arith in
       let each : length answers ≡ length events / 4 = omega arith in
       rw (ok, eq-eqb _ _ cut, eq-eqb _ _ each)
-
-  pub run-bad : (k : ℕ) → recordJudged p t ≡ refused k → recordRun p t events answers ≡ record { answer = refused k; tables = t; answers = answers }
-  unfolding recordRun runJudged andThen
-  run-bad k h = rw h

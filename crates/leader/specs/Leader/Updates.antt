@@ -12,7 +12,6 @@ use Rattle.message.specs.Plan.{isPlan}
 use Rattle.slots.specs.View.{View}
 use Rattle.change.specs.Change.Updates.{IsInbox, Changes, changes-refuseIf, changes-cond, changes-andThen, changes-sending}
 use Rattle.event.specs.Event.{kindOf, whoOf, highOf, lowOf, slotNumber, isEvent}
-use Rattle.inbox.specs.Inbox.{decided, forAll, forSome}
 use Rattle.leader.specs.Leader.{owns, phase2aMessage, keepOwn, sendBoth, phase2a, receiptStore, receipt, sendOnly, phase1a, decideSend, leaderKind, leaderVerdict}
 
 receipt-changes : (box : View) (m : Message) → Changes IsInbox (receipt box m)

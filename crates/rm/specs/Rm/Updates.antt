@@ -9,10 +9,8 @@ use lib.ListN.{getD}
 use Rattle.message.specs.declared.Plan.{Plan}
 use Rattle.message.specs.declared.Message.{Message}
 use Rattle.message.specs.declared.Message.the-variants.{Phase1a, Phase1b, Phase2a, Phase2b, Decision}
-use Rattle.message.specs.Outcome.{Outcome}
 use Rattle.message.specs.Plan.{isPlan}
 use Rattle.slots.specs.View.{View}
-use Rattle.change.specs.declared.Change.{Change}
 use Rattle.change.specs.Change.Updates.{IsState, Changes, changes-refuseIf, changes-cond, changes-andThen, changes-sending}
 use Rattle.event.specs.Event.{kindOf, whoOf, slotNumber, isEvent}
 use Rattle.tcommit.specs.RmState.{working, prepared, committed, aborted}

@@ -10,7 +10,7 @@ use mathlib.Core.Path.{_≡_, refl, sym, _∙_, ap}
 use Rattle.message.specs.declared.Plan.{Plan}
 use Rattle.message.specs.Outcome.{Outcome, accepted, refused}
 use Rattle.record.specs.Record.{Tables, RecordStep, recordStep}
-use Rattle.batch.specs.Run.{eventsOf, singleCalls, tablesLeft, Run, finishedRun, recordRun}
+use Rattle.batch.specs.Run.{singleCalls, tablesLeft, Run, finishedRun, recordRun}
 use Rattle.batch.specs.Run.Laws.{calls-append, left-append, run-accepted, run-refused}
 use Rattle.safety.specs.Lists.{Call, event, run, countedFor, counted, made, Each, tablesAfter}
 

@@ -10,7 +10,6 @@ use native.Mathlib.Decide.{decLt}
 use native.Mathlib.Omega.{arith}
 use lib.ListN.{length, getD, set, length-set, List·getD-eq-default}
 use lib.Seq.{ext-getD, getD-set-same, getD-set-other}
-use Rattle.message.specs.declared.Plan.{Plan}
 use Rattle.tcommit.specs.TCommit.{except}
 use Rattle.tcommit.specs.TCommit.Laws.{except-cases, except-here}
 use Rattle.record.specs.Record.{Tables, RecordStep}

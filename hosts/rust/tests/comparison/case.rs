@@ -22,10 +22,12 @@ pub enum Call {
     Leader(usize, usize, Vec<u8>),
     Deliver(Vec<u8>),
     Ending,
+    /// A list, and the answers as they are lent.
+    Run(Vec<u8>, Vec<u8>),
 }
 
-pub const CALLS: [&str; 9] =
-    ["read", "write", "open", "step", "rm_step", "acceptor_step", "leader_step", "deliver", "ending"];
+pub const CALLS: [&str; 10] =
+    ["read", "write", "open", "step", "rm_step", "acceptor_step", "leader_step", "deliver", "ending", "run"];
 
 impl Call {
     pub fn number(&self) -> usize {
@@ -39,6 +41,15 @@ impl Call {
             Call::Leader(..) => 6,
             Call::Deliver(_) => 7,
             Call::Ending => 8,
+            Call::Run(..) => 9,
+        }
+    }
+
+    /// The answers as they are lent; no other call than the list has any.
+    pub fn answers(&self) -> &[u8] {
+        match self {
+            Call::Run(_, answers) => answers,
+            _ => &[],
         }
     }
 
@@ -56,10 +67,10 @@ impl Call {
         }
     }
 
-    /// What the call is lent beside the tables: an event, or what may be a message.
+    /// What the call is lent beside the tables: an event, a list, or what may be a message.
     pub fn slice_mut(&mut self) -> Option<&mut Vec<u8>> {
         match self {
-            Call::Read(bytes) | Call::Deliver(bytes) => Some(bytes),
+            Call::Read(bytes) | Call::Deliver(bytes) | Call::Run(bytes, _) => Some(bytes),
             call => call.event_mut(),
         }
     }
@@ -106,7 +117,7 @@ pub type Code = u64;
 /// The refusal that a code is, 0 for an acceptance.
 pub fn refusal(call: &Call, code: Code) -> u8 {
     match call {
-        Call::Read(_) | Call::Open => code as u8,
+        Call::Read(_) | Call::Open | Call::Run(..) => code as u8,
         // The first byte is a map, or 0 and then the refusal.
         Call::Write(_) if code as u8 == 0 => (code >> 8) as u8,
         Call::Write(_) => 0,
@@ -116,7 +127,8 @@ pub fn refusal(call: &Call, code: Code) -> u8 {
 }
 
 pub trait Engine {
-    fn call(&self, plan: Plan, tables: &mut Tables, call: &Call) -> Code;
+    /// A list writes its answers; other calls are lent none.
+    fn call(&self, plan: Plan, tables: &mut Tables, answers: &mut [u8], call: &Call) -> Code;
 }
 
 /// The calls of the static libraries, through this crate.
@@ -131,7 +143,7 @@ fn code(answer: Result<Answer, Refusal>) -> Code {
 }
 
 impl Engine for Linked {
-    fn call(&self, plan: Plan, tables: &mut Tables, call: &Call) -> Code {
+    fn call(&self, plan: Plan, tables: &mut Tables, answers: &mut [u8], call: &Call) -> Code {
         let [states, votes, network, inboxes] = tables;
         match call {
             Call::Read(bytes) => match Fields::read(plan, bytes) {
@@ -167,6 +179,34 @@ impl Engine for Linked {
                 Ok(Ending::Aborted) => 2,
                 Err(refusal) => 65536 + Code::from(refusal.number()),
             },
+            Call::Run(events, _) => match paxos_commit::run(plan, states, votes, network, inboxes, events, answers) {
+                Ok(()) => 0,
+                Err(refusal) => refusal.number().into(),
+            },
+        }
+    }
+}
+
+/// The same with a list by its single calls, one after the other.
+pub struct Singles;
+
+impl Engine for Singles {
+    fn call(&self, plan: Plan, tables: &mut Tables, answers: &mut [u8], call: &Call) -> Code {
+        let Call::Run(events, _) = call else { return Linked.call(plan, tables, answers, call) };
+        let mut step = |event: &[u8]| {
+            let [states, votes, network, inboxes] = &mut *tables;
+            paxos_commit::step(plan, states, votes, network, inboxes, event).err().map_or(0, Refusal::number)
+        };
+        // Bytes that are no event are refused after the tables.
+        match step(&[]) {
+            7 if events.len() != 4 * answers.len() => 19,
+            7 => {
+                for (event, answer) in events.chunks(4).zip(answers) {
+                    *answer = step(event);
+                }
+                0
+            }
+            number => number.into(),
         }
     }
 }
@@ -189,7 +229,7 @@ fn reference_code(answer: Result<reference::Sent, u8>) -> Code {
 }
 
 impl Engine for Reference {
-    fn call(&self, plan: Plan, tables: &mut Tables, call: &Call) -> Code {
+    fn call(&self, plan: Plan, tables: &mut Tables, answers: &mut [u8], call: &Call) -> Code {
         use reference::{Message, Vote};
         let Plan { rms, acceptors, leaders, order } = plan;
         let plan = reference::Plan { rms, acceptors, leaders, order };
@@ -251,6 +291,10 @@ impl Engine for Reference {
                 Ok(reference::Ending::Aborted) => 2,
                 Err(number) => 65536 + Code::from(number),
             },
+            Call::Run(events, _) => match reference::run(plan, states, votes, network, inboxes, events, answers) {
+                Ok(()) => 0,
+                Err(number) => number.into(),
+            },
         }
     }
 }
@@ -271,19 +315,28 @@ pub struct Mismatch {
     pub lent: Tables,
     pub answers: [Code; 2],
     pub left: [Tables; 2],
+    /// The answers of a list.
+    pub listed: [Vec<u8>; 2],
 }
 
-/// Two engines, each with its tables.
+/// Two engines, each with its tables, and with the answers of the last list.
 pub struct Pair<'a> {
     pub engines: [&'a dyn Engine; 2],
     pub tables: [Tables; 2],
+    pub listed: [Vec<u8>; 2],
     lent: Tables,
     saved: Tables,
 }
 
 impl<'a> Pair<'a> {
     pub fn new(engines: [&'a dyn Engine; 2], tables: &Tables) -> Pair<'a> {
-        Pair { engines, tables: [tables.clone(), tables.clone()], lent: tables.clone(), saved: tables.clone() }
+        Pair {
+            engines,
+            tables: [tables.clone(), tables.clone()],
+            listed: [Vec::new(), Vec::new()],
+            lent: tables.clone(),
+            saved: tables.clone(),
+        }
     }
 
     /// One call on both: its answer, the same from both, or how they differ. A refusal must change no byte.
@@ -296,10 +349,26 @@ impl<'a> Pair<'a> {
         }
         self.lent.clone_from(&self.tables[0]);
         let [first, second] = &mut self.tables;
-        let answers = [self.engines[0].call(op.plan, first, &op.call), self.engines[1].call(op.plan, second, &op.call)];
+        for listed in &mut self.listed {
+            listed.clear();
+            listed.extend_from_slice(op.call.answers());
+        }
+        let [told, said] = &mut self.listed;
+        let answers = [
+            self.engines[0].call(op.plan, first, told, &op.call),
+            self.engines[1].call(op.plan, second, said, &op.call),
+        ];
         let refused = refusal(&op.call, answers[0]) != 0;
-        if answers[0] != answers[1] || self.tables[0] != self.tables[1] || refused && self.tables[0] != self.lent {
-            return Err(Box::new(Mismatch { at, lent: self.lent.clone(), answers, left: self.tables.clone() }));
+        let same = answers[0] == answers[1] && self.tables[0] == self.tables[1] && self.listed[0] == self.listed[1];
+        let kept = self.tables[0] == self.lent && self.listed[0] == op.call.answers();
+        if !same || refused && !kept {
+            return Err(Box::new(Mismatch {
+                at,
+                lent: self.lent.clone(),
+                answers,
+                left: self.tables.clone(),
+                listed: self.listed.clone(),
+            }));
         }
         if op.damages() {
             for tables in &mut self.tables {

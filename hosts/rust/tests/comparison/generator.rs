@@ -1,7 +1,7 @@
 //! Random histories: plans of all sizes, fresh and used and full tables, events that are mostly enabled, damage of all
 //! sorts.
 
-use crate::case::{Call, I, N, Op, Q, Tables, W};
+use crate::case::{Call, Engine, I, N, Op, Q, Reference, Tables, W};
 use paxos_commit::{Event, MAX_SLOTS, Plan, SLOT};
 use std::collections::VecDeque;
 
@@ -151,7 +151,7 @@ impl Generator {
     pub fn next(&mut self, tables: &Tables) -> Op {
         self.left -= 1;
         let mut op = Op::plain(self.plan, Call::Open);
-        op.call = match self.random.below(440) {
+        op.call = match self.random.below(480) {
             0..=15 => Call::Read(self.slice()),
             16..=31 => Call::Write(self.fields()),
             32 => Call::Open,
@@ -171,6 +171,10 @@ impl Generator {
             74..=83 => {
                 self.states(&mut op, tables[W].len());
                 Call::Ending
+            }
+            440..=479 => {
+                op.undone = self.random.percent(30);
+                self.list(tables)
             }
             _ => self.step(tables),
         };
@@ -340,6 +344,46 @@ impl Generator {
             }
             _ => Call::Step(event),
         }
+    }
+
+    /// A list: mostly of events that may be enabled at their turn, sometimes cut, or with other answers than one each.
+    fn list(&mut self, tables: &Tables) -> Call {
+        let most = if self.random.percent(2) { 200 } else { 20 };
+        let count = self.random.below(most + 1);
+        let mut tables = tables.clone();
+        let mut events = Vec::with_capacity(4 * count + 4);
+        for _ in 0..count {
+            let event = match self.wanted(&tables) {
+                Some(event) => event,
+                None if self.random.percent(5) => {
+                    let mut event = self.junk();
+                    event.resize(4, 0);
+                    [event[0], event[1], event[2], event[3]]
+                }
+                None => self.event(&tables),
+            };
+            // What the events before it have done, so that slots are named that they use.
+            Reference.call(self.plan, &mut tables, &mut [], &Call::Step(event.to_vec()));
+            events.extend(event);
+        }
+        let random = &mut self.random;
+        if random.percent(6) {
+            let cut = random.below(4);
+            events.truncate(events.len().saturating_sub(cut));
+            events.extend((0..random.below(2)).map(|_| random.byte(9)));
+        }
+        let mut length = events.len() / 4;
+        if random.percent(6) {
+            length = match random.below(5) {
+                0 => 0,
+                1 => length + 1,
+                2 => length.saturating_sub(1),
+                3 => events.len(),
+                _ => random.below(24),
+            };
+        }
+        let pattern = random.next() as u8;
+        Call::Run(events, (0..length).map(|at| pattern.wrapping_add(7 * at as u8)).collect())
     }
 
     /// A leader's own call on a part of I that is no leader's, or another leader's.

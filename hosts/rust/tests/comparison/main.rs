@@ -1,5 +1,5 @@
 //! The linked calls beside the hand-written Rust of documents 01 and 02 on random histories: answers and all four tables after
-//! each call, byte by byte.
+//! each call, byte by byte, and the answers that a list was lent.
 //!
 //!     PAXOS_COMMIT_SEED     another seed (a number; the same seed makes the same calls)
 //!     PAXOS_COMMIT_CALLS    how many calls
@@ -10,7 +10,7 @@ mod generator;
 mod reference;
 mod shrink;
 
-use case::{CALLS, Call, Case, Code, Engine, Linked, Mismatch, N, Pair, Reference, Tables, refusal};
+use case::{CALLS, Call, Case, Code, Engine, Linked, Mismatch, N, Pair, Reference, Singles, Tables, refusal};
 use generator::Generator;
 use paxos_commit::Plan;
 
@@ -23,27 +23,42 @@ fn number(variable: &str, otherwise: u64) -> u64 {
     }
 }
 
+/// What is counted: the calls, and the events in lists.
+const ROWS: usize = CALLS.len() + 1;
+
 /// How often each call answered what: acceptances by kind (for the ending by its number, 0 for other calls without an
-/// event), and refusals.
+/// event), and refusals; and so each event in a list.
 #[derive(Default)]
 struct Seen {
     calls: usize,
     histories: usize,
     longest: usize,
-    accepted: [[usize; 9]; CALLS.len()],
-    refused: [[usize; 19]; CALLS.len()],
+    accepted: [[usize; 9]; ROWS],
+    refused: [[usize; 20]; ROWS],
 }
 
 impl Seen {
-    fn count(&mut self, call: &Call, code: Code) {
+    fn count(&mut self, call: &Call, code: Code, listed: &[u8]) {
         let kind = match call {
             Call::Ending => code as usize,
             call => call.event().and_then(|event| event.first()).map_or(0, |&kind| usize::from(kind)),
         };
         self.calls += 1;
-        match refusal(call, code) {
-            0 => self.accepted[call.number()][kind] += 1,
-            number => self.refused[call.number()][usize::from(number)] += 1,
+        let number = refusal(call, code);
+        self.answer(call.number(), kind, number);
+        if let Call::Run(events, _) = call
+            && number == 0
+        {
+            for (event, &number) in events.chunks(4).zip(listed) {
+                self.answer(CALLS.len(), event[0].into(), number);
+            }
+        }
+    }
+
+    fn answer(&mut self, row: usize, kind: usize, number: u8) {
+        match number {
+            0 => self.accepted[row][kind] += 1,
+            number => self.refused[row][usize::from(number)] += 1,
         }
     }
 }
@@ -60,7 +75,7 @@ fn compare(engines: [&dyn Engine; 2], seed: u64, calls: usize) -> (Seen, Option<
             let answer = pair.run(&op, history.ops.len());
             history.ops.push(op);
             match answer {
-                Ok(code) => seen.count(&history.ops[history.ops.len() - 1].call, code),
+                Ok(code) => seen.count(&history.ops[history.ops.len() - 1].call, code, &pair.listed[0]),
                 Err(mismatch) => return (seen, Some((history, mismatch))),
             }
         }
@@ -70,8 +85,8 @@ fn compare(engines: [&dyn Engine; 2], seed: u64, calls: usize) -> (Seen, Option<
     (seen, None)
 }
 
-/// What each call may answer: kinds that it accepts, and refusals.
-const POSSIBLE: [(&[usize], &[usize]); CALLS.len()] = [
+/// What each call, and an event in a list, may answer: kinds that it accepts, and refusals.
+const POSSIBLE: [(&[usize], &[usize]); ROWS] = [
     (&[0], &[1, 15, 16, 17, 18]),
     (&[0], &[1, 15, 17]),
     (&[0], &[1, 2]),
@@ -81,58 +96,77 @@ const POSSIBLE: [(&[usize], &[usize]); CALLS.len()] = [
     (&[4, 5, 6, 7, 8], &[1, 2, 5, 6, 7, 8, 9, 10, 12, 13, 14]),
     (&[0], &[1, 2, 5, 13, 15, 16, 17, 18]),
     (&[0, 1, 2], &[1, 2, 3]),
+    (&[0], &[1, 2, 3, 4, 5, 6, 19]),
+    (&[0, 1, 2, 3, 4, 5, 6, 7, 8], &[7, 8, 9, 10, 11, 12, 13, 14]),
 ];
 
 #[test]
 fn linked_calls_and_reference_agree() {
     let seed = number("PAXOS_COMMIT_SEED", SEED);
     let calls = number("PAXOS_COMMIT_CALLS", if cfg!(debug_assertions) { 100_000 } else { 20_000_000 }) as usize;
-    let engines: [&dyn Engine; 2] = [&Linked, &Reference];
-    let (seen, found) = compare(engines, seed, calls);
-    if let Some((case, mismatch)) = found {
-        let length = case.ops.len();
-        let (case, mismatch) = shrink::shrink(engines, case, mismatch);
-        panic!(
-            "seed {seed}, call {}: linked call and reference differ. The smallest case found, from a history of {length} calls:\n{}",
-            seen.calls,
-            shrink::told(&case, &mismatch)
-        );
-    }
+    let seen = agree([&Linked, &Reference], "linked call and reference", seed, calls);
     println!(
         "seed {seed}: {} calls in {} histories, the longest of {} calls",
         seen.calls, seen.histories, seen.longest
     );
     let mut rare = Vec::new();
-    for (call, (kinds, numbers)) in POSSIBLE.iter().enumerate() {
-        let (accepted, refused) = (&seen.accepted[call], &seen.refused[call]);
-        println!("{:14} accepted by kind {:?}, refused {:?}", CALLS[call], accepted, &refused[1..]);
+    for (row, (kinds, numbers)) in POSSIBLE.iter().enumerate() {
+        let name = CALLS.get(row).unwrap_or(&"event in run");
+        let (accepted, refused) = (&seen.accepted[row], &seen.refused[row]);
+        println!("{name:14} accepted by kind {accepted:?}, refused {:?}", &refused[1..]);
         for (kind, &count) in accepted.iter().enumerate() {
-            assert!(kinds.contains(&kind) || count == 0, "{} accepted kind {kind}", CALLS[call]);
+            assert!(kinds.contains(&kind) || count == 0, "{name} accepted kind {kind}");
             if kinds.contains(&kind) && count < calls / 100_000 {
-                rare.push(format!("{} accepted kind {kind} {count} times", CALLS[call]));
+                rare.push(format!("{name} accepted kind {kind} {count} times"));
             }
         }
         for (number, &count) in refused.iter().enumerate() {
-            assert!(numbers.contains(&number) || count == 0, "{} answered {number}", CALLS[call]);
+            assert!(numbers.contains(&number) || count == 0, "{name} answered {number}");
             if numbers.contains(&number) && count < calls / 100_000 {
-                rare.push(format!("{} answered {number} {count} times", CALLS[call]));
+                rare.push(format!("{name} answered {number} {count} times"));
             }
         }
     }
     assert!(rare.is_empty(), "the calls were not mixed enough: {}", rare.join(", "));
 }
 
+/// The linked library by itself: a list is its single calls, one after the other.
+#[test]
+fn a_linked_list_is_its_linked_single_calls() {
+    let seed = number("PAXOS_COMMIT_SEED", SEED);
+    let calls = number("PAXOS_COMMIT_CALLS", if cfg!(debug_assertions) { 100_000 } else { 2_000_000 }) as usize;
+    agree([&Linked, &Singles], "list and single calls", seed.wrapping_add(1), calls.min(2_000_000));
+}
+
+/// Both do the same on random histories, or the smallest case found where they do not.
+fn agree(engines: [&dyn Engine; 2], names: &str, seed: u64, calls: usize) -> Seen {
+    let (seen, found) = compare(engines, seed, calls);
+    if let Some((case, mismatch)) = found {
+        let length = case.ops.len();
+        let (case, mismatch) = shrink::shrink(engines, case, mismatch);
+        panic!(
+            "seed {seed}, call {}: {names} differ. The smallest case found, from a history of {length} calls:\n{}",
+            seen.calls,
+            shrink::told(&case, &mismatch)
+        );
+    }
+    seen
+}
+
+/// What a fault does in place of a call, given the plan, the tables, the answers and the call.
+type Fault = fn(Plan, &mut Tables, &mut [u8], &Call) -> Option<Code>;
+
 /// The reference with a fault.
-struct Faulty(fn(Plan, &mut Tables, &Call) -> Option<Code>);
+struct Faulty(Fault);
 
 impl Engine for Faulty {
-    fn call(&self, plan: Plan, tables: &mut Tables, call: &Call) -> Code {
-        (self.0)(plan, tables, call).unwrap_or_else(|| Reference.call(plan, tables, call))
+    fn call(&self, plan: Plan, tables: &mut Tables, answers: &mut [u8], call: &Call) -> Code {
+        (self.0)(plan, tables, answers, call).unwrap_or_else(|| Reference.call(plan, tables, answers, call))
     }
 }
 
 /// A planted fault is found, and its smallest case is small.
-fn found(fault: fn(Plan, &mut Tables, &Call) -> Option<Code>) -> (Case, Box<Mismatch>) {
+fn found(fault: Fault) -> (Case, Box<Mismatch>) {
     let faulty = Faulty(fault);
     let engines: [&dyn Engine; 2] = [&Reference, &faulty];
     let (_, found) = compare(engines, number("PAXOS_COMMIT_SEED", SEED), 200_000);
@@ -143,10 +177,10 @@ fn found(fault: fn(Plan, &mut Tables, &Call) -> Option<Code>) -> (Case, Box<Mism
 
 #[test]
 fn planted_fault_reports_acceptance_and_stores_nothing() {
-    let (case, _) = found(|plan, tables, call| match call {
+    let (case, _) = found(|plan, tables, answers, call| match call {
         Call::Step(event) if event.first() == Some(&3) => {
             let old = tables.clone();
-            let code = Reference.call(plan, tables, call);
+            let code = Reference.call(plan, tables, answers, call);
             *tables = old;
             Some(code)
         }
@@ -159,9 +193,9 @@ fn planted_fault_reports_acceptance_and_stores_nothing() {
 
 #[test]
 fn planted_fault_refuses_a_full_network_one_slot_early() {
-    let (case, mismatch) = found(|plan, tables, call| match call {
+    let (case, mismatch) = found(|plan, tables, answers, call| match call {
         Call::Rm(event) if event.first() == Some(&0) => {
-            let code = Reference.call(plan, &mut tables.clone(), call);
+            let code = Reference.call(plan, &mut tables.clone(), answers, call);
             (8 * (code + 1) == tables[N].len() as Code).then_some(65536 + 13)
         }
         _ => None,
@@ -173,7 +207,7 @@ fn planted_fault_refuses_a_full_network_one_slot_early() {
 
 #[test]
 fn planted_fault_in_the_reader() {
-    let (case, _) = found(|_, _, call| match call {
+    let (case, _) = found(|_, _, _, call| match call {
         Call::Read(bytes) if bytes.len() == 7 && bytes[0] == 0x3B && bytes[4] == 3 => Some(16),
         _ => None,
     });
@@ -184,10 +218,10 @@ fn planted_fault_in_the_reader() {
 
 #[test]
 fn planted_fault_delivers_a_message_that_stands_there_again() {
-    let (case, _) = found(|plan, tables, call| match call {
+    let (case, _) = found(|plan, tables, answers, call| match call {
         Call::Deliver(bytes) => {
             let room = tables[N].chunks_exact(8).position(|slot| slot[0] == 0)?;
-            let code = Reference.call(plan, tables, call);
+            let code = Reference.call(plan, tables, answers, call);
             if code < room as Code {
                 tables[N][8 * room..8 * room + bytes.len()].copy_from_slice(bytes);
             }
@@ -203,14 +237,63 @@ fn planted_fault_delivers_a_message_that_stands_there_again() {
 /// A message of another order is read where the two numbers have the same low byte.
 #[test]
 fn planted_fault_compares_half_of_the_order_number() {
-    let (case, mismatch) = found(|plan, tables, call| match call {
+    let (case, mismatch) = found(|plan, tables, answers, call| match call {
         Call::Read(bytes) if bytes.last() == Some(&(plan.order as u8)) => {
             let order = u16::from_be_bytes([*bytes.iter().rev().nth(1)?, plan.order as u8]);
-            Some(Reference.call(Plan { order, ..plan }, tables, call))
+            Some(Reference.call(Plan { order, ..plan }, tables, answers, call))
         }
         _ => None,
     });
     assert_eq!(case.ops.len(), 1);
     assert_eq!(mismatch.answers[0], 18);
     assert!(case.tables.iter().all(|table| table.len() <= 8));
+}
+
+/// A list ends at the first event that is refused.
+#[test]
+fn planted_fault_stops_at_a_refused_event() {
+    let (case, mismatch) = found(|plan, tables, answers, call| {
+        let Call::Run(events, _) = call else { return None };
+        let code = Reference.call(plan, &mut tables.clone(), &mut answers.to_vec(), call);
+        if code == 0 {
+            for (event, answer) in events.chunks(4).zip(answers) {
+                *answer =
+                    Reference.call(plan, tables, &mut [], &Call::Step(event.to_vec())).saturating_sub(65536) as u8;
+                if *answer != 0 {
+                    break;
+                }
+            }
+        }
+        Some(code)
+    });
+    assert_eq!(case.ops.len(), 1);
+    assert_eq!(case.ops[0].plan, Plan { rms: 1, acceptors: 1, leaders: 1, order: 0 });
+    assert!(mismatch.listed[0].len() == 2 && case.tables[N].len() <= 8, "{case:?}");
+}
+
+/// A list that is refused as a whole is answered for its first event too.
+#[test]
+fn planted_fault_answers_a_refused_list() {
+    let (case, mismatch) = found(|plan, tables, answers, call| {
+        let Call::Run(..) = call else { return None };
+        let code = Reference.call(plan, tables, answers, call);
+        if let (19, Some(answer)) = (code, answers.first_mut()) {
+            *answer = 19;
+        }
+        Some(code)
+    });
+    assert_eq!((case.ops.len(), mismatch.answers), (1, [19, 19]));
+    assert_eq!(mismatch.listed[1], [19]);
+    assert!(case.tables[N].is_empty() && mismatch.listed[0].len() == 1, "{case:?}");
+}
+
+/// A list is judged before its tables are.
+#[test]
+fn planted_fault_looks_at_the_list_first() {
+    let (case, mismatch) = found(|_, _, answers, call| match call {
+        Call::Run(events, _) if events.len() != 4 * answers.len() => Some(19),
+        _ => None,
+    });
+    assert_eq!(case.ops.len(), 1);
+    assert!(mismatch.answers[0] < 7 && mismatch.answers[1] == 19);
 }

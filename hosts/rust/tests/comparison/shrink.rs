@@ -22,6 +22,7 @@ pub fn shrink(engines: [&dyn Engine; 2], case: Case, mismatch: Box<Mismatch>) ->
         let before = (size(&s.case), s.case.clone().ops);
         s.plan();
         s.order();
+        s.events();
         s.slots();
         s.bytes();
         if before == (size(&s.case), s.case.clone().ops) || s.tries >= TRIES {
@@ -95,7 +96,8 @@ impl Shrinker<'_> {
         }
     }
 
-    /// Fewer weights, acceptors and leaders, with the tables cut to them.
+    /// Fewer weights, acceptors and leaders, with the tables cut to them; messages of the last one as they are, or of the
+    /// one before it.
     fn plan(&mut self) {
         loop {
             let plan = self.case.ops[0].plan;
@@ -107,9 +109,20 @@ impl Shrinker<'_> {
             let taken = smaller
                 .into_iter()
                 .filter(|small| small.rms < 17 && small.acceptors < 8 && small.leaders < 5)
-                .any(|small| {
+                .flat_map(|small| [(small, false), (small, true)])
+                .any(|(small, lower)| {
                     let mut case = self.case.clone();
                     case.tables = cut(&case.tables, plan, small);
+                    if lower {
+                        for table in [N, I] {
+                            case.tables[table].chunks_exact_mut(SLOT).for_each(|slot| lowered(slot, small));
+                        }
+                        for op in &mut case.ops {
+                            if let Call::Read(bytes) | Call::Deliver(bytes) = &mut op.call {
+                                lowered(bytes, small);
+                            }
+                        }
+                    }
                     for op in &mut case.ops {
                         op.plan = small;
                     }
@@ -143,6 +156,41 @@ impl Shrinker<'_> {
         }
     }
 
+    /// Events left out of a list, each with its answer; then fewer answers, and those 0.
+    fn events(&mut self) {
+        let last = self.case.ops.len() - 1;
+        let mut at = 0;
+        loop {
+            let mut case = self.case.clone();
+            let Some(Call::Run(events, answers)) = case.ops.get_mut(last).map(|op| &mut op.call) else { return };
+            if at >= events.len() / 4 {
+                break;
+            }
+            events.drain(4 * at..4 * at + 4);
+            if at < answers.len() {
+                answers.remove(at);
+            }
+            if !self.take(case) {
+                at += 1;
+            }
+        }
+        for zero in [false, true] {
+            loop {
+                let mut case = self.case.clone();
+                let Some(Call::Run(_, answers)) = case.ops.get_mut(last).map(|op| &mut op.call) else { return };
+                let old = answers.clone();
+                if zero {
+                    answers.fill(0);
+                } else {
+                    answers.pop();
+                }
+                if old == *answers || !self.take(case) {
+                    break;
+                }
+            }
+        }
+    }
+
     /// Slots left out of N and of the inboxes, fewer at a time; an event's slot moves with its message.
     fn slots(&mut self) {
         let slots = |case: &Case, table: usize| case.tables[table].len() / SLOT / parts(case, table);
@@ -160,10 +208,18 @@ impl Shrinker<'_> {
                             case.tables[table].drain(start..start + SLOT * count);
                         }
                         if table == N && moved > 0 {
-                            case.ops
-                                .iter_mut()
-                                .filter_map(|op| op.call.event_mut())
-                                .for_each(|event| earlier(event, from, moved));
+                            for op in &mut case.ops {
+                                match &mut op.call {
+                                    Call::Run(events, _) => {
+                                        events.chunks_mut(4).for_each(|event| earlier(event, from, moved));
+                                    }
+                                    call => {
+                                        if let Some(event) = call.event_mut() {
+                                            earlier(event, from, moved);
+                                        }
+                                    }
+                                }
+                            }
                         }
                         if table == I {
                             let all = case.tables[I].len();
@@ -231,6 +287,18 @@ fn parts(case: &Case, table: usize) -> usize {
     if table == N || whole || !(1..=4).contains(&op.plan.leaders) { 1 } else { op.plan.leaders.into() }
 }
 
+/// A message of the first instance or acceptor that this plan has no more, as one of the last that it has.
+fn lowered(message: &mut [u8], plan: Plan) {
+    if let [map, ins, acc, ..] = message {
+        if *map & 1 != 0 && *ins == plan.rms {
+            *ins = ins.saturating_sub(1);
+        }
+        if *map & 2 != 0 && *acc == plan.acceptors {
+            *acc = acc.saturating_sub(1);
+        }
+    }
+}
+
 /// The slot that kinds 2, 3 and 4 name, with slots left out before it.
 fn earlier(event: &mut [u8], from: usize, count: usize) {
     if let [2..=4, _, high, low] = event {
@@ -287,6 +355,10 @@ pub fn told(case: &Case, mismatch: &Mismatch) -> String {
             Call::Read(bytes) | Call::Deliver(bytes) => writeln!(out, ", bytes {}", hex(bytes)),
             Call::Write(fields) => writeln!(out, ", map, ins, acc, mbal, bal, val {}", hex(fields)),
             Call::Open | Call::Ending => writeln!(out),
+            Call::Run(events, answers) => {
+                let events = events.chunks(4).map(hex).collect::<Vec<_>>().join(" | ");
+                writeln!(out, ", events {events}, lent answers {}", hex(answers))
+            }
             Call::Leader(from, to, event) => writeln!(out, ", bytes {from} to {to} of I, event {}", hex(event)),
             call => writeln!(out, ", event {}", hex(call.event().map_or(&[], Vec::as_slice))),
         };
@@ -295,6 +367,10 @@ pub fn told(case: &Case, mismatch: &Mismatch) -> String {
         }
     }
     let _ = writeln!(out, "  answers: {} and {}", mismatch.answers[0], mismatch.answers[1]);
+    let [first, second] = &mismatch.listed;
+    if first != second || !first.is_empty() {
+        let _ = writeln!(out, "  answers of the events: {}\n                    and: {}", hex(first), hex(second));
+    }
     for (index, name) in names.iter().enumerate() {
         let [first, second] = [&mismatch.left[0][index], &mismatch.left[1][index]];
         if first != second || first != &mismatch.lent[index] {

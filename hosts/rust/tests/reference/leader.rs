@@ -58,12 +58,17 @@ fn proposal(plan: Plan, inbox: &[Slot], ins: u8, bal: u8) -> Option<u8> {
     let own_2a = u32::from_le_bytes([MAP_2A, ins, bal, 0]);
     let own_1b = u32::from_le_bytes([0, ins, 0, bal]);
     let mut promises = Promises { acceptors: 0, best: None };
-    let sent = words(inbox).any(|word| {
-        let low = word as u32;
-        if low & 0xFF00_FF00 == own_1b {
-            promises.add(word);
-        }
-        low & 0x00FF_FFFF == own_2a
+    // Sixteen slots are looked at together, so that it vectorises, and singly
+    // where one of them may be the 2a or such a 1b.
+    let own = |low: u32| (low & 0xFF00_FF00 == own_1b) | (low & 0x00FF_FFFF == own_2a);
+    let mut blocks = inbox.chunks(16).filter(|block| words(block).fold(false, |any, word| any | own(word as u32)));
+    let sent = blocks.any(|block| {
+        words(block).any(|word| {
+            if word as u32 & 0xFF00_FF00 == own_1b {
+                promises.add(word);
+            }
+            word as u32 & 0x00FF_FFFF == own_2a
+        })
     });
     let value = promises.best.map_or(ABORTED, |vote| vote.val);
     (!sent && plan.majority(promises.acceptors)).then_some(value)

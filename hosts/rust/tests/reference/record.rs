@@ -1,4 +1,5 @@
-//! The record: opening it, and the event call on its four tables.
+//! The record: opening it, and the event call and the list call on its four
+//! tables.
 
 use super::message::Rules;
 use super::slots::{Row, fits};
@@ -26,6 +27,29 @@ pub fn event(
     Record::judge(plan, states, votes, network, inboxes)?.step(event)
 }
 
+/// The list call: events of four bytes each, in order, and a byte for the
+/// answer of each, 0 or its refusal; a refused one doesn't end the list. If the
+/// whole list is refused, with 1 to 6 or 19, the answers keep their bytes too.
+pub fn run(
+    plan: Plan,
+    states: &mut [u8],
+    votes: &mut [u8],
+    network: &mut [u8],
+    inboxes: &mut [u8],
+    events: &[u8],
+    answers: &mut [u8],
+) -> Result<(), u8> {
+    let mut record = Record::judge(plan, states, votes, network, inboxes)?;
+    let (events, cut) = events.as_chunks::<4>();
+    if !cut.is_empty() || answers.len() != events.len() {
+        return Err(refusal::LIST);
+    }
+    for (answer, event) in answers.iter_mut().zip(events) {
+        *answer = record.step(event).err().unwrap_or(0);
+    }
+    Ok(())
+}
+
 fn lengths(plan: Plan, states: &[u8], votes: &[u8], network: &[u8], inboxes: &[u8]) -> Result<(), u8> {
     let leaders = usize::from(plan.leaders);
     let ok = states.len() == usize::from(plan.rms)
@@ -38,7 +62,7 @@ fn lengths(plan: Plan, states: &[u8], votes: &[u8], network: &[u8], inboxes: &[u
 
 /// Four tables that have been judged. Steps keep them sound, so that a list
 /// of events needs a single judgement.
-pub(crate) struct Record<'a> {
+struct Record<'a> {
     plan: Plan,
     states: &'a mut [u8],
     votes: &'a mut [u8],
@@ -47,7 +71,7 @@ pub(crate) struct Record<'a> {
 }
 
 impl<'a> Record<'a> {
-    pub fn judge(
+    fn judge(
         plan: Plan,
         states: &'a mut [u8],
         votes: &'a mut [u8],
@@ -71,7 +95,7 @@ impl<'a> Record<'a> {
         Ok(Record { plan, states, votes, network, inboxes: rows })
     }
 
-    pub fn step(&mut self, event: &[u8]) -> Result<Sent, u8> {
+    fn step(&mut self, event: &[u8]) -> Result<Sent, u8> {
         let event = Event::read(self.plan, event, 0, 8)?;
         match event.kind {
             0..=2 => weight::step(self.plan, self.states, &mut self.network, event),
@@ -81,9 +105,5 @@ impl<'a> Record<'a> {
                 leader::step(self.plan, inbox, &mut self.network, event)
             }
         }
-    }
-
-    pub fn states(&self) -> &[u8] {
-        self.states
     }
 }

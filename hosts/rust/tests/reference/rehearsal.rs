@@ -1,25 +1,25 @@
 //! The rehearsal: a plan and a list of events on a fresh record.
 
-use super::record::Record;
 use super::slots::MOST;
-use super::{Plan, Sent, State, acceptor, event};
+use super::{Plan, State, acceptor, event, refusal, run};
 
 const EVENTS: usize = 8192;
 
-/// What the rehearsal prints for this input. The fresh record is judged once.
+/// What the rehearsal prints for this input. All its events are one list.
 pub fn rehearse(input: &[u8]) -> String {
     let Some((plan, events)) = plan(input) else {
         return "1\n".into();
     };
     let [mut states, mut votes, mut network, mut inboxes] = tables(plan);
-    match Record::judge(plan, &mut states, &mut votes, &mut network, &mut inboxes) {
-        Ok(mut record) => {
-            let mut out = lines(events, |event| record.step(event));
-            out.push_str(word(record.states()));
-            out
-        }
-        Err(number) => format!("{number}\n"),
+    let (whole, cut) = events.split_at(events.len().min(4 * EVENTS) / 4 * 4);
+    let mut answers = vec![0; whole.len() / 4];
+    if let Err(number) = run(plan, &mut states, &mut votes, &mut network, &mut inboxes, whole, &mut answers) {
+        return format!("{number}\n");
     }
+    if !cut.is_empty() && answers.len() < EVENTS {
+        answers.push(refusal::EVENT);
+    }
+    lines(answers.into_iter(), &states)
 }
 
 /// The same output by a whole event call for each event.
@@ -28,9 +28,12 @@ pub fn rehearse_by_calls(input: &[u8]) -> String {
         return "1\n".into();
     };
     let [mut states, mut votes, mut network, mut inboxes] = tables(plan);
-    let mut out = lines(events, |bytes| event(plan, &mut states, &mut votes, &mut network, &mut inboxes, bytes));
-    out.push_str(word(&states));
-    out
+    let mut answers = Vec::with_capacity(EVENTS.min(events.len().div_ceil(4)));
+    for bytes in events.chunks(4).take(EVENTS) {
+        let sent = event(plan, &mut states, &mut votes, &mut network, &mut inboxes, bytes);
+        answers.push(sent.err().unwrap_or(0));
+    }
+    lines(answers.into_iter(), &states)
 }
 
 fn plan(input: &[u8]) -> Option<(Plan, &[u8])> {
@@ -45,17 +48,17 @@ fn tables(plan: Plan) -> [Vec<u8>; 4] {
         .map(|length| vec![0; length])
 }
 
-/// A line for each event; a cut last event is one too.
-fn lines(events: &[u8], mut step: impl FnMut(&[u8]) -> Result<Sent, u8>) -> String {
-    let mut out = String::with_capacity(3 * (events.len() / 4).min(EVENTS) + 16);
-    for event in events.chunks(4).take(EVENTS) {
-        let number = step(event).err().unwrap_or(0);
+/// A line for each event, and the word.
+fn lines(answers: impl ExactSizeIterator<Item = u8>, states: &[u8]) -> String {
+    let mut out = String::with_capacity(3 * answers.len() + 16);
+    for number in answers {
         if number >= 10 {
             out.push('1');
         }
         out.push(char::from(b'0' + number % 10));
         out.push('\n');
     }
+    out.push_str(word(states));
     out
 }
 
