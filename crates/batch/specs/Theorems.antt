@@ -1,31 +1,39 @@
 -- What the list call answers and leaves (document 02, Paper 2), for every plan, all tables, any bytes as the list and as the lent answers.
 -- `recordRun` is what the contract of `batch::run` names.
 --     run-answers     the lowest number that applies is returned: 1 to 6 for the plan and the tables, then 19
+--     run-1-to-6, run-19     1 to 6 as the event call; then 19 exactly where the list has not four bytes for each answer
 --     run-numbers     so it is one of 1 to 6, or 19; and what an accepted call writes is 0 or one of 7 to 14
 --     run-keeps       a refused call leaves the four tables and the answers as they were
 --     run-empty       the empty list is accepted where 1 to 6 pass, and changes nothing
 --     run-one         a list of one event is the event call: its number, 0 or the refusal, and its tables
 --     run-halves      a list is its two halves one after the other
---     run-means       how the contract reads the enum
+--     perform-means   on a sound record `record::perform` is the event call; on any tables its refusal changes no byte
+--     run-means       how the contract reads the enum; what `tablesLeft` and an answer's number are
 -- Empty, one and halves leave nothing open: they give every list. Assumes nothing.
 use Prim.Native.Nat.{ℕ, _*_, _≤_}
 use mathlib.Core.Bool.{not}
 use mathlib.Core.List.{List, [], _∷_, _++_, List·Memᴰ}
-use mathlib.Core.Logic.{_⊎_}
-use mathlib.Core.Path.{_≡_, refl, _∙_, ap}
+use mathlib.Core.Logic.{_⊎_, _↔_}
+use mathlib.Core.Path.{_≡_, refl, sym, _∙_, ap}
 use native.Mathlib.Omega.{arith}
 use lib.ListN.{length, length-append}
 use borrow.Author.Tests.{not-true, not-false}
 use Rattle.message.specs.declared.Plan.{Plan}
 use Rattle.message.specs.Outcome.{Outcome, accepted, refused, numberOf}
+use Rattle.message.specs.Outcome.Laws.{accepted-not-refused}
 use Rattle.message.specs.Rows.{Lowest}
 use Rattle.message.specs.Rows.Laws.{isAscending, ruled-row, ruled-end, lowest-of-ruled}
 use Rattle.change.specs.declared.Judged.the-variants.{Sound, Refused}
-use Rattle.record.specs.Record.{Tables, recordJudged, recordStep}
+use Rattle.change.specs.declared.Sent.{Sent}
+use Rattle.record.specs.Record.{Tables, RecordStep, recordJudged, recordStep}
+use Rattle.record.specs.Record.Applied.{recordApplied}
+use Rattle.record.specs.Record.Applied.Laws.{applied-keeps}
+use Rattle.record.proofs.Stepping.{step-applied}
 use Rattle.conformance.specs.Record.Judges.{record-judges-then}
 use Rattle.batch.specs.Rows.{runRows}
-use Rattle.batch.specs.Run.{eventsOf, Run, runOf, isList, runJudged, finishedRun, recordRun}
-use Rattle.batch.specs.Run.Laws.{no-list, a-list, finished-sound, finished-halves, answer-judged, run-accepted, run-refused, run-sound, run-whole, run-bad}
+use Rattle.batch.specs.Run.{eventsOf, tablesLeft, Run, runOf, isList, runJudged, finishedRun, recordRun}
+use Rattle.batch.specs.Run.Laws.{no-list, a-list, finished-sound, finished-halves, finished-accepted, answer-judged, run-accepted, run-refused, run-sound, run-whole, run-cut}
+use Rattle.batch.specs.Run.Laws.{run-bad}
 use Rattle.batch.specs.Run.Numbers.{run-number, written-number}
 
 module _ (p : Plan) (t : Tables) (events answers : List ℕ) where
@@ -37,6 +45,15 @@ module _ (p : Plan) (t : Tables) (events answers : List ℕ) where
       (record-judges-then p t _ _
       (ruled-row (not (isList events answers)) 19 _ _ _ (λ h. no-list events answers (not-true _ h)) (λ h. a-list events answers (not-false _ h)) (λ _.
       ruled-end (tt {0})))))
+
+  pub run-1-to-6 : (k : ℕ) → recordJudged p t ≡ refused k → recordRun p t events answers .answer ≡ refused k
+  run-1-to-6 k h = ap (λ (r : Run). r .answer) (run-bad p t events answers k h)
+
+  pub run-19 : recordJudged p t ≡ accepted tt → (recordRun p t events answers .answer ≡ refused 19) ↔ (length events ≡ 4 * length answers → ⊥)
+  run-19 ok = (
+    (λ is whole. accepted-not-refused (sym is ∙ ap (λ (r : Run). r .answer) (run-whole p t events answers ok whole) ∙ finished-accepted p t events)),
+    run-cut p t events answers ok,
+  )
 
   pub run-numbers :
       ((k : ℕ) → recordRun p t events answers .answer ≡ refused k → ((1 ≤ k) × (k ≤ 6)) ⊎ (k ≡ 19))
@@ -54,10 +71,20 @@ module _ (p : Plan) (t : Tables) (events answers : List ℕ) where
       → (recordRun p t events answers .tables ≡ t) × (recordRun p t events answers .answers ≡ answers)
   run-keeps k is = let kept = run-refused p t events answers k is in (ap (λ (r : Run). r .tables) kept, ap (λ (r : Run). r .answers) kept)
 
+-- `recordApplied` is what the contract of `record::perform` names, which the list call makes of each event
+pub perform-means : (p : Plan) (t : Tables) (e : List ℕ)
+    → (recordJudged p t ≡ accepted tt → recordApplied p t e ≡ recordStep p t e)
+    × ((k : ℕ) → recordApplied p t e .answer ≡ refused k → recordApplied p t e .tables ≡ t)
+perform-means p t e = (step-applied p t e, applied-keeps p t e)
+
 pub run-means : (t : Tables) (answers : List ℕ)
     → (runOf Sound t answers ≡ record { answer = accepted tt; tables = t; answers = answers })
     × ((k : ℕ) → runOf (Refused k) t answers ≡ record { answer = refused k; tables = t; answers = answers })
-run-means t answers = (refl, λ k. refl)
+    × ((k : ℕ) → numberOf {A = Sent} (refused k) ≡ k)
+    × ((sent : Sent) → numberOf (accepted sent) ≡ 0)
+    × (tablesLeft t [] ≡ t)
+    × ((s : RecordStep) (ss : List RecordStep) → tablesLeft t (s ∷ ss) ≡ tablesLeft (s .tables) ss)
+run-means t answers = (refl, (λ k. refl), (λ k. refl), (λ sent. refl), refl, λ s ss. refl)
 
 module _ (p : Plan) (t : Tables) where
   pub run-empty : recordJudged p t ≡ accepted tt → recordRun p t [] [] ≡ record { answer = accepted tt; tables = t; answers = [] }

@@ -4,10 +4,10 @@
 --     calls-append, left-append      the single calls of two lists of events, and the tables that they leave
 --     events-append                  the events of two lists of whole events, one after the other
 --     calls-keep                     what each call keeps, all of them keep
---     finished-sound, finished-halves     a sound record stays so; two lists one after the other
+--     finished-accepted, finished-sound, finished-halves     a sound record stays so; two lists one after the other
 --     answer-judged                  what the call answers
 --     run-sound                      an accepted call found the record sound
---     run-whole, run-bad             on a sound record and a list; on a record that is not sound
+--     run-whole, run-cut, run-bad    on a sound record a list, and what is none; on a record that is not sound
 --     run-accepted, run-refused      the two cases of the call
 -- Assumes nothing.
 use Prim.Native.Nat.{ℕ, zero, suc, _+_, _*_, _/_, _%_, _≤_}
@@ -86,6 +86,10 @@ pub calls-keep : (p : Plan) (P : Tables → Type 0) → ((t : Tables) (e : List 
 calls-keep p P step t h [] = h
 calls-keep p P step t h (e ∷ es) = calls-keep p P step (recordStep p t e .tables) (step t e h) es
 
+pub finished-accepted : (p : Plan) (t : Tables) (events : List ℕ) → finishedRun p t events .answer ≡ accepted tt
+unfolding finishedRun
+finished-accepted p t events = refl
+
 pub finished-sound : (p : Plan) (t : Tables) → recordJudged p t ≡ accepted tt → (events : List ℕ) → recordJudged p (finishedRun p t events .tables) ≡ accepted tt
 unfolding finishedRun
 finished-sound p t ok events = calls-keep p (λ u. recordJudged p u ≡ accepted tt) (record-sound p) t ok (eventsOf events)
@@ -149,3 +153,11 @@ module _ (p : Plan) (t : Tables) (events answers : List ℕ) where
       let cut : length events % 4 ≡ 0 = omega arith in
       let each : length answers ≡ length events / 4 = omega arith in
       rw (ok, eq-eqb _ _ cut, eq-eqb _ _ each)
+
+  pub run-cut : recordJudged p t ≡ accepted tt → (length events ≡ 4 * length answers → ⊥) → recordRun p t events answers .answer ≡ refused 19
+  unfolding runJudged andThen refuseIf
+  run-cut ok cut = answer-judged ∙ go (isList events answers) refl
+    where
+      go : (b : Bool) → isList events answers ≡ b → runJudged p t events answers ≡ refused 19
+      go true is = absurd (cut (is-list events answers is))
+      go false is = rw (ok, is)

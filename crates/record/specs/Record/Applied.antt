@@ -3,7 +3,8 @@
 --     recordVerdict            what the event comes to: 7 where it is none, else what the role of its kind makes of it
 --     keptInbox, changed       the tables after a change, which is of W, of Q or of the inbox of the event's leader; and of N
 --     recordApplied            the answer and the four tables
--- Assumes nothing.
+-- Its laws are in Applied/Laws.antt. Assumes nothing.
+pub mod Laws
 use Prim.Native.Nat.{ℕ}
 use mathlib.Core.Bool.{not, cond}
 use mathlib.Core.List.{List}
