@@ -11,10 +11,8 @@ ghost use Rattle.message.specs.Outcome.{accepted};
 ghost use Rattle.record.specs.Record.{tablesOf, recordJudged};
 ghost use Rattle.batch.specs.Run.{isList, runOf, finishedRun, recordRun};
 use change::Judged;
+use event::EVENT_SIZE;
 use message::Plan;
-
-// The bytes of an event.
-const EVENT_SIZE: usize = 4;
 
 // Whether the list is whole events and there is an answer for each; where not, 19.
 fn is_list(events: &[u8], answers: &[u8]) -> bool

@@ -1,10 +1,14 @@
 // The four bytes of an event (document 01, "The nine events").
 //
+//     EVENT_SIZE        how many they are
 //     is_event          row 7 of "Refusals by place": four bytes, a kind, a process and arguments in range
 //     slot_number       the slot that kinds 2, 3 and 4 name
 ghost use mathlib.Core.Path.{_≡_};
 ghost use Rattle.event.specs.Event.{whoLimit, areZero, areArguments, isEvent, slotNumber};
 use message::Plan;
+
+// The bytes of an event: kind, who, high and low.
+pub const EVENT_SIZE: usize = 4;
 
 // How many processes the kind's role has: resource managers for 0 to 2, acceptors for 3, leaders from 4 on.
 fn who_limit(plan: Plan, kind: u8) -> u8
@@ -45,7 +49,7 @@ fn are_arguments(plan: Plan, kind: u8, high: u8, low: u8) -> bool
 pub fn is_event(plan: Plan, event: &[u8]) -> bool
     ensures { λ r. ⌜ r ≡ isEvent plan (now (event .entry)) ⌝ }
 {
-    if event.len() != 4 {
+    if event.len() != EVENT_SIZE {
         return false;
     }
     let kind = event[0];

@@ -19,6 +19,7 @@ ghost use Rattle.message.specs.Plan.{isPlan};
 ghost use Rattle.record.specs.Record.{tablesOf, recordJudged};
 ghost use Rattle.rehearsal_text.specs.Text.{putOf, put};
 ghost use Rattle.rehearsing.specs.Rehearsal.{callsIn, freshTables, textOf, numberLines, cutLine, rehearsal};
+use event::EVENT_SIZE;
 use message::Plan;
 use rehearsal_input::PlanRead;
 
@@ -34,9 +35,7 @@ const NETWORK_SIZE: usize = 8192;
 
 const INBOXES_SIZE: usize = 32768;
 
-// The bytes of an event, and an answer for each of the most events.
-const EVENT_SIZE: usize = 4;
-
+// An answer for each of the most events.
 const ANSWERS_SIZE: usize = 8192;
 
 fn states_table() -> [u8; STATES_SIZE]
