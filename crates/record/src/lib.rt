@@ -1,62 +1,26 @@
 // The order record: the event call of all nine kinds (document 01, "The plan and four tables" and "Refusals by place"). Opening a record is the
-// crate `opening`, judging one the crate `judging`. Message bytes are below the roles' steps, and these below this crate, which sees only what
-// each role promises.
+// crate `opening`, judging one the crate `judging`, what an event comes to on it the crate `verdict`. Message bytes are below the roles' steps, and
+// these below `verdict`, which sees only what each role promises.
 //
-//     perform   the step of the event's role: it judges the event but no table
-//     step      the event call: `judging::judge`, then `perform`
+//     store_in_inbox   stores in a leader's inbox, a part of I
+//     update_table     changes W, Q or the leader's inbox
+//     apply            stores what a verdict accepts, and answers
+//     perform          the step of the event's role: `verdict::evaluate`, then `apply`; it judges the event but no table
+//     step             the event call: `judging::judge`, then `perform`
 //
-// Both are lent W (`states`), Q (`votes`), N (`network`) and I (`inboxes`), of any content and length.
+// Each is lent what it changes of W (`states`), Q (`votes`), N (`network`) and I (`inboxes`), of any content and length.
 ghost use mathlib.Core.List.{List};
 ghost use mathlib.Core.Path.{_≡_};
-ghost use Prim.Native.Nat.{ℕ, _<_};
-ghost use Rattle.event.specs.Event.{whoOf};
+ghost use Prim.Native.Nat.{ℕ};
 ghost use Rattle.change.specs.Change.{verdictOutcome};
 ghost use Rattle.record.specs.Record.{tablesOf, recordStepOf, recordStep};
-ghost use Rattle.record.specs.Record.Applied.{leaderOn, recordVerdict, keptInbox, changed, appliedTo, recordApplied};
+ghost use Rattle.record.specs.Record.Applied.{keptInbox, changed, appliedTo, recordApplied};
 use change::Answer;
 use change::Judged;
 use change::Update;
 use change::Verdict;
 use message::Plan;
 use slots::Store;
-
-// Kinds 4 to 8: what the event comes to on the leader's own inbox, a part of I, and N.
-fn evaluate_leader(plan: Plan, network: &[u8], inboxes: &[u8], event: &[u8]) -> Verdict
-    requires { ⌜ whoOf (now event) < plan .leaders ⌝ }
-    ensures { λ r. ⌜ verdictOutcome r ≡ leaderOn plan (now (inboxes .entry)) (now (network .entry)) (now (event .entry)) ⌝ }
-{
-    let who = message::byte_at(event, 1) as usize;
-    let size = inboxes.len() / plan.leaders as usize;
-    let from = who * size;
-    let to = from + size;
-    let inbox = &inboxes[from..to];
-    leader::evaluate(plan, inbox, network, event)
-}
-
-// What the event comes to: 7 where it is no event, and then what the role of its kind makes of it. It judges no table.
-fn evaluate(
-    plan: Plan,
-    states: &[u8],
-    votes: &[u8],
-    network: &[u8],
-    inboxes: &[u8],
-    event: &[u8],
-) -> Verdict
-    ensures { λ r. ⌜ verdictOutcome r ≡
-        recordVerdict plan (tablesOf (now (states .entry)) (now (votes .entry)) (now (network .entry)) (now (inboxes .entry))) (now (event .entry)) ⌝ }
-{
-    if !event::is_event(plan, event) {
-        return Verdict::Refused(7);
-    }
-    let kind = message::byte_at(event, 0);
-    if kind <= 2 {
-        return rm::evaluate(plan, states, network, event);
-    }
-    if kind == 3 {
-        return acceptor::evaluate(plan, votes, network, event);
-    }
-    evaluate_leader(plan, network, inboxes, event)
-}
 
 // Stores in a leader's inbox, a part of I; there is none past the last leader.
 fn store_in_inbox(plan: Plan, inboxes: &mut [u8], leader: u8, store: Store)
@@ -128,7 +92,7 @@ pub fn perform(
     ensures { λ r. ⌜ recordStepOf r (tablesOf (now (states .exit)) (now (votes .exit)) (now (network .exit)) (now (inboxes .exit))) ≡
         recordApplied plan (tablesOf (now (states .entry)) (now (votes .entry)) (now (network .entry)) (now (inboxes .entry))) (now (event .entry)) ⌝ }
 {
-    let verdict = evaluate(plan, states, votes, network, inboxes, event);
+    let verdict = verdict::evaluate(plan, states, votes, network, inboxes, event);
     let leader = message::byte_at(event, 1);
     apply(plan, states, votes, network, inboxes, leader, verdict)
 }

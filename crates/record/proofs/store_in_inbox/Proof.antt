@@ -1,7 +1,7 @@
 -- `record::store_in_inbox` meets its contract: the part of I that is lent is the leader's inbox, and is put back at its place. Assumes nothing.
 use native.Mathlib.Omega.{arith}
 use borrow.Author.Needs.{needs}
-use Rattle.record.proofs.Inboxes.{part-within}
+use Rattle.verdict.proofs.Inboxes.{part-within}
 use Rattle.record.proofs.Stepping.{kept-none, kept-part}
 use Rattle.record.proofs.store_in_inbox.Statement.{statement}
 use Rattle.record.proofs.store_in_inbox.Tie as tie

@@ -1,39 +1,25 @@
 -- What `record::perform` answers and leaves: the event call without the judgement of the tables, over the view of their bytes. On a judged
 -- record it is the event call (proofs/Stepping.antt, step-applied).
---     recordVerdict            what the event comes to: 7 where it is none, else what the role of its kind makes of it
 --     keptInbox, changed       the tables after a change, which is of W, of Q or of the inbox of the event's leader; and of N
---     recordApplied            the answer and the four tables
--- Its laws are in Applied/Laws.antt. Assumes nothing.
+--     appliedTo                what a verdict answers and leaves
+--     recordApplied            that of the event's verdict: the answer and the four tables
+-- What the event comes to, recordVerdict, is of the crate `verdict`. Laws are in Applied/Laws.antt. Assumes nothing.
 pub mod Laws
 use Prim.Native.Nat.{ℕ}
-use mathlib.Core.Bool.{not, cond}
+use mathlib.Core.Bool.{cond}
 use mathlib.Core.List.{List}
-use lib.Dec.{ltb, leb, eqb}
+use lib.Dec.{ltb}
 use Rattle.message.specs.declared.Plan.{Plan}
-use Rattle.message.specs.Outcome.{Outcome, accepted, refused, refuseIf}
+use Rattle.message.specs.Outcome.{Outcome, accepted, refused}
 use Rattle.slots.specs.declared.Store.{Store}
 use Rattle.slots.specs.View.{storeBytes}
-use Rattle.slots.specs.View.Bytes.{viewBytes}
 use Rattle.change.specs.declared.Update as UpdateType
 use Rattle.change.specs.declared.Update.the-variants.{State, Vote, Inbox}
 use Rattle.change.specs.declared.Change.{Change}
 use Rattle.change.specs.Change.{updated}
-use Rattle.event.specs.Event.{kindOf, whoOf, isEvent}
-use Rattle.rm.specs.Rm.{rmVerdict}
-use Rattle.acceptor.specs.Acceptor.{acceptorVerdict}
-use Rattle.leader.specs.Leader.{leaderVerdict}
+use Rattle.event.specs.Event.{whoOf}
+use Rattle.verdict.specs.Verdict.{recordVerdict}
 use Rattle.record.specs.Record.{Tables, tablesOf, inboxOf, withInbox, RecordStep, recordRefusal}
-
--- a leader's event is taken on its inbox
-abbrev pub leaderOn : Plan → List ℕ → List ℕ → List ℕ → Outcome Change
-leaderOn p inboxes network e = leaderVerdict p (viewBytes p (inboxOf p inboxes (whoOf e))) (viewBytes p network) e
-
-unfoldable pub recordVerdict : Plan → Tables → List ℕ → Outcome Change
-recordVerdict p t e =
-    refuseIf (not (isEvent p e)) 7
-    (cond (leb (kindOf e) 2) (rmVerdict p (t .states) (viewBytes p (t .network)) e)
-    (cond (eqb (kindOf e) 3) (acceptorVerdict p (t .votes) (viewBytes p (t .network)) e)
-    (leaderOn p (t .inboxes) (t .network) e)))
 
 -- I after a store in leader l's inbox; there is none past the last leader
 unfoldable pub keptInbox : Plan → List ℕ → ℕ → Store → List ℕ

@@ -1,27 +1,22 @@
 -- The equal parts of I.
---     inbox-within                              leader l's inbox lies within I
---     length-inboxOf                            and has the size of a part
+--     length-inboxOf                            leader l's inbox has the size of a part
 --     length-withInbox, inboxSize-withInbox     with other bytes in one inbox, as many as there were, I keeps its length
 --     inboxOf-with, inboxOf-with-other          that inbox is then what was put, and the others are as they were
 --     with-inboxOf                              put back as it was it gives I
 --     zeros-inboxOf                             an inbox of zeros is zeros
--- Assumes nothing.
-use Prim.Native.Nat.{ℕ, suc, _+_, _-_, _*_, _/_, _<_, _≤_}
+-- That leader l's inbox lies within I is `inbox-within` of the crate `verdict`. Assumes nothing.
+use Prim.Native.Nat.{ℕ, _+_, _-_, _*_, _/_, _<_, _≤_}
 use mathlib.Core.Bool.{Bool, true, false}
 use mathlib.Core.List.{List, _++_}
 use mathlib.Core.Path.{_≡_, refl, sym, _∙_, ap}
-use native.Mathlib.Nat.{le-trans, suc-mul, mul-le-mul-right, mul-div-le}
 use native.Mathlib.Omega.{arith}
 use lib.Dec.{ltb}
 use lib.ListN.{length, take, drop, replicate, length-append, length-take, length-drop, length-replicate, take-append-drop, replicate-append-replicate}
 use lib.Seq.{length-take-le, take-at, drop-at, take-append-le, drop-append-le, drop-drop}
 use borrow.Author.Tests.{ltb-true, ltb-false}
 use Rattle.message.specs.declared.Plan.{Plan}
+use Rattle.verdict.specs.Verdict.Parts.{parts-apart, inbox-within}
 use Rattle.record.specs.Record.{inboxSize, inboxOf, withInbox}
-
--- part k ends where a later part l starts, or before
-parts-apart : (s k l : ℕ) → k < l → k * s + s ≤ l * s
-parts-apart s k l h = rw suc-mul at (mul-le-mul-right {m = suc k} {n = l} s h)
 
 -- a list with the `s` elements from `a` on replaced by as many others
 module _ (xs box : List ℕ) (a s : ℕ) (fits : a + s ≤ length xs) where
@@ -81,13 +76,12 @@ part-zeros n a s h =
         ∙ ap (λ (r : List ℕ). zeros a ++ r) (sym (replicate-append-replicate s (n - (a + s)) 0))
 
 module _ (p : Plan) (inboxes : List ℕ) (l : ℕ) (some : 0 < p .leaders) (h : l < p .leaders) where
-  pub inbox-within : l * inboxSize p inboxes + inboxSize p inboxes ≤ length inboxes
-  unfolding inboxSize
-  inbox-within = le-trans (parts-apart (length inboxes / p .leaders) l (p .leaders) h) (mul-div-le (length inboxes) (p .leaders))
+  abbrev within : l * inboxSize p inboxes + inboxSize p inboxes ≤ length inboxes
+  within = inbox-within p inboxes l some h
 
   pub length-inboxOf : length (inboxOf p inboxes l) ≡ inboxSize p inboxes
   unfolding inboxOf
-  length-inboxOf = length-part inboxes inboxes (l * inboxSize p inboxes) (inboxSize p inboxes) inbox-within
+  length-inboxOf = length-part inboxes inboxes (l * inboxSize p inboxes) (inboxSize p inboxes) within
 
   pub with-inboxOf : withInbox p inboxes l (inboxOf p inboxes l) ≡ inboxes
   unfolding inboxOf withInbox
@@ -96,7 +90,7 @@ module _ (p : Plan) (inboxes : List ℕ) (l : ℕ) (some : 0 < p .leaders) (h : 
   module _ (box : List ℕ) (whole : length box ≡ inboxSize p inboxes) where
     pub length-withInbox : length (withInbox p inboxes l box) ≡ length inboxes
     unfolding withInbox
-    length-withInbox = length-put inboxes box _ _ inbox-within whole
+    length-withInbox = length-put inboxes box _ _ within whole
 
     pub inboxSize-withInbox : inboxSize p (withInbox p inboxes l box) ≡ inboxSize p inboxes
     unfolding inboxSize
@@ -104,17 +98,17 @@ module _ (p : Plan) (inboxes : List ℕ) (l : ℕ) (some : 0 < p .leaders) (h : 
 
     pub inboxOf-with : inboxOf p (withInbox p inboxes l box) l ≡ box
     unfolding inboxOf withInbox
-    inboxOf-with = rw inboxSize-withInbox (part-put inboxes box _ _ inbox-within whole)
+    inboxOf-with = rw inboxSize-withInbox (part-put inboxes box _ _ within whole)
 
     pub inboxOf-with-other : (k : ℕ) → k < p .leaders → (k ≡ l → ⊥) → inboxOf p (withInbox p inboxes l box) k ≡ inboxOf p inboxes k
     unfolding inboxOf withInbox
     inboxOf-with-other k below apart = rw inboxSize-withInbox (go (ltb k l) refl)
       where
         go : (b : Bool) → ltb k l ≡ b → take (inboxSize p inboxes) (drop (k * inboxSize p inboxes) (withInbox p inboxes l box)) ≡ inboxOf p inboxes k
-        go true e = part-before inboxes box _ _ inbox-within whole _ _ (parts-apart (inboxSize p inboxes) k l (ltb-true k l e))
+        go true e = part-before inboxes box _ _ within whole _ _ (parts-apart (inboxSize p inboxes) k l (ltb-true k l e))
         go false e =
             ap (take (inboxSize p inboxes))
-            (part-after inboxes box _ _ inbox-within whole _ (parts-apart (inboxSize p inboxes) l k (let g = ltb-false k l e in omega arith)))
+            (part-after inboxes box _ _ within whole _ (parts-apart (inboxSize p inboxes) l k (let g = ltb-false k l e in omega arith)))
 
 pub zeros-inboxOf : (p : Plan) (count l : ℕ) → 0 < p .leaders → l < p .leaders → inboxOf p (replicate count 0) l ≡ replicate (inboxSize p (replicate count 0)) 0
 unfolding inboxOf

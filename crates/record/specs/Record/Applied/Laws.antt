@@ -9,8 +9,9 @@ use Rattle.message.specs.Outcome.{Outcome, accepted, refused}
 use Rattle.message.specs.Outcome.Laws.{accepted-not-refused}
 use Rattle.change.specs.declared.Change.{Change}
 use Rattle.event.specs.Event.{whoOf}
+use Rattle.verdict.specs.Verdict.{recordVerdict}
 use Rattle.record.specs.Record.{Tables}
-use Rattle.record.specs.Record.Applied.{recordVerdict, appliedTo, recordApplied}
+use Rattle.record.specs.Record.Applied.{appliedTo, recordApplied}
 
 pub applied-keeps : (p : Plan) (t : Tables) (e : List ℕ) (k : ℕ) → recordApplied p t e .answer ≡ refused k → recordApplied p t e .tables ≡ t
 unfolding recordApplied

@@ -1,10 +1,10 @@
--- `record::evaluate_leader` meets its contract: the part of I that is lent is the leader's inbox. Assumes nothing.
+-- `verdict::evaluate_leader` meets its contract: the part of I that is lent is the leader's inbox. Assumes nothing.
 use native.Mathlib.Omega.{arith}
 use borrow.Author.Needs.{needs}
-use Rattle.record.proofs.Inboxes.{part-within-of}
-use Rattle.record.proofs.Stepping.{leader-part}
-use Rattle.record.proofs.evaluate_leader.Statement.{statement}
-use Rattle.record.proofs.evaluate_leader.Tie as tie
+use Rattle.verdict.proofs.Inboxes.{part-within-of}
+use Rattle.verdict.proofs.Evaluating.{leader-part}
+use Rattle.verdict.proofs.evaluate_leader.Statement.{statement}
+use Rattle.verdict.proofs.evaluate_leader.Tie as tie
 
 -- the part lies within I
 mul-from : tie.Need-mul-from

@@ -1,8 +1,8 @@
--- `record::evaluate` meets its contract: what the event's role makes of it. Assumes nothing.
+-- `verdict::evaluate` meets its contract: what the event's role makes of it. Assumes nothing.
 use Rattle.message.proofs.Guards.{passed, failed}
-use Rattle.record.proofs.Stepping.{no-event, on-states, on-votes, is-led, on-inbox}
-use Rattle.record.proofs.evaluate.Statement.{statement}
-use Rattle.record.proofs.evaluate.Tie as tie
+use Rattle.verdict.proofs.Evaluating.{no-event, on-states, on-votes, is-led, on-inbox}
+use Rattle.verdict.proofs.evaluate.Statement.{statement}
+use Rattle.verdict.proofs.evaluate.Tie as tie
 
 -- no event
 returns : tie.Need-returns
