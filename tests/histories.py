@@ -165,7 +165,7 @@ class Quick:
     def make(self, event, number=None):
         outcome = self.history.event(event, number)
         if outcome[0] == 0 and outcome[1] == len(self.kinds):
-            self.kinds.append(MAPS[self.history.record.network[SLOT * outcome[1]]][0])
+            self.kinds.append(MAPS[self.history.record.network[SLOT * outcome[1]]])
         return outcome
 
     def make_any(self, count):

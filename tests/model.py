@@ -62,8 +62,8 @@ COMMIT, ABORT = 1, 2              # decisions
 
 # The fields by their bits: bit 0 ins, bit 1 acc, bit 2 mbal, bit 3 bal, bit 4 val. Bit 5 stands always: the order number.
 FIELDS = ("ins", "acc", "mbal", "bal", "val")
-# map: kind, bytes
-MAPS = {0x29: ("1a", 5), 0x27: ("1b", 6), 0x3F: ("1b", 8), 0x39: ("2a", 6), 0x3B: ("2b", 7), 0x30: ("decision", 4)}
+# The known maps.
+MAPS = {0x29: "1a", 0x27: "1b", 0x3F: "1b", 0x39: "2a", 0x3B: "2b", 0x30: "decision"}
 
 
 class Message(NamedTuple):
@@ -81,6 +81,11 @@ def fields_of(map_byte):
     return [field for bit, field in enumerate(FIELDS) if map_byte >> bit & 1]
 
 
+def length_of(map_byte):
+    """The bytes of a message with this map: 2 and its ones; 0 for an unknown map (document 02, Paper 3)."""
+    return 2 + bin(map_byte).count("1") if map_byte in MAPS else 0
+
+
 def form(message, order=ORDER):
     """The bytes of a message: its map, then its fields and the order number."""
     has = [bit for bit, field in enumerate(FIELDS) if getattr(message, field) is not None]
@@ -95,7 +100,7 @@ def slot_of(message, order=ORDER):
 
 def decode(part):
     """The message that begins with a known map."""
-    return Message(MAPS[part[0]][0], **dict(zip(fields_of(part[0]), part[1:])))
+    return Message(MAPS[part[0]], **dict(zip(fields_of(part[0]), part[1:])))
 
 
 def in_range(plan, m):
@@ -109,7 +114,7 @@ def read(plan, part):
     """The reader on a slice that is to be exactly one message: the message."""
     judge_plan(plan)
     refuse_if(len(part) == 0 or part[0] not in MAPS, 15)
-    refuse_if(len(part) != MAPS[part[0]][1], 16)
+    refuse_if(len(part) != length_of(part[0]), 16)
     message = decode(part)
     refuse_if(not in_range(plan, message), 17)
     refuse_if(part[-2:] != plan.order.to_bytes(2, "big"), 18)

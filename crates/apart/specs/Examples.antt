@@ -7,12 +7,13 @@ use Prim.Native.Nat.{ℕ}
 use mathlib.Core.Bool.{true}
 use mathlib.Core.List.{List, [], _∷_}
 use mathlib.Core.Path.{_≡_, refl}
+use lib.Count.{ones}
 use lib.ListN.{replicate}
 use Rattle.message.specs.declared.Plan.{Plan}
 use Rattle.message.specs.declared.Message.the-variants.{Phase2a, Phase2b, Decision}
 use Rattle.message.specs.Outcome.{accepted, refused, andThen, refuseIf}
 use Rattle.message.specs.Plan.{isPlan, isCount}
-use Rattle.message.specs.Form.{isValue, isVote, isInRange, bytesOf, bytesOf1b, messageLength, slotOf, mapLengths, mapLength, fieldsMessage, decode, hasOrder}
+use Rattle.message.specs.Form.{isValue, isVote, isInRange, bytesOf, bytesOf1b, messageLength, slotOf, isKnown, mapLength, fieldsMessage, decode, hasOrder}
 use Rattle.message.specs.Codec.{readMessage}
 use Rattle.slots.specs.All.{all}
 use Rattle.slots.specs.Table.{isTableLength, slotsUpTo, slots, isZero, readSlot, readTable, allUnused, isOrdered, isTable, usedMessages, messages}
@@ -79,8 +80,8 @@ computed :
     ∷ accepted (Slot 1) ∷ accepted Quiet ∷ refused 18 ∷ accepted (Slot 1) ∷ accepted Quiet ∷ [])
     × (systemAfter order fresh committing .wire ≡ Decision 1 ∷ Phase2b 0 0 0 1 ∷ Phase2a 0 0 1 ∷ [])
     × (row (systemAfter order fresh committing) 0 ≡ 2)
-unfolding readMessage andThen refuseIf isPlan isCount isValue isVote isInRange bytesOf bytesOf1b messageLength slotOf mapLengths
-    mapLength fieldsMessage decode hasOrder all isTableLength slotsUpTo slots isZero readSlot readTable allUnused isOrdered isTable usedMessages
+unfolding readMessage andThen refuseIf isPlan isCount isValue isVote isInRange bytesOf bytesOf1b messageLength slotOf mapLength isKnown ones
+    fieldsMessage decode hasOrder all isTableLength slotsUpTo slots isZero readSlot readTable allUnused isOrdered isTable usedMessages
     messages sameBytes storeAt sameMessage placeFrom placeIn messageAt sending slotNumber whoLimit areZero areArguments isEvent
     areStates rmJudged rmChoose rmReceiveDecision rmReceive rmKind rmVerdict rmStep voteAt
     isVoteState areVotes acceptorJudged voteOf phase1b phase2b acceptorReceive acceptorVerdict acceptorStep countAcceptors isMajority

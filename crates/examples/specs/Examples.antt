@@ -8,13 +8,14 @@
 use Prim.Native.Nat.{ℕ}
 use mathlib.Core.List.{List, [], _∷_, _++_, map}
 use mathlib.Core.Path.{_≡_, refl}
+use lib.Count.{ones}
 use Rattle.message.specs.declared.Plan.{Plan}
 use Rattle.message.specs.declared.Vote.the-variants.{None}
 use Rattle.message.specs.declared.Message.{Message}
 use Rattle.message.specs.declared.Message.the-variants.{Phase1b, Phase2a}
 use Rattle.message.specs.Outcome.{Outcome, accepted, refused, andThen, refuseIf}
 use Rattle.message.specs.Plan.{isPlan, isCount}
-use Rattle.message.specs.Form.{isValue, isVote, isInRange, bytesOf, bytesOf1b, messageLength, slotOf, mapLengths, mapLength, fieldsMessage, decode, hasOrder}
+use Rattle.message.specs.Form.{isValue, isVote, isInRange, bytesOf, bytesOf1b, messageLength, slotOf, isKnown, mapLength, fieldsMessage, decode, hasOrder}
 use Rattle.message.specs.Codec.{readMessage}
 use Rattle.slots.specs.All.{all}
 use Rattle.slots.specs.Table.{isTableLength, slotsUpTo, slots, isZero, readSlot, readTable, allUnused, isOrdered, isTable, usedMessages, messages}
@@ -108,8 +109,8 @@ examples =
     ∷ []
 
 pub examples-hold : map (λ (e : Example). e .computed) examples ≡ map (λ (e : Example). e .expected) examples
-unfolding examples readMessage andThen refuseIf isPlan isCount isValue isVote isInRange bytesOf bytesOf1b messageLength slotOf mapLengths
-    mapLength fieldsMessage decode hasOrder all isTableLength slotsUpTo slots isZero readSlot readTable allUnused isOrdered isTable usedMessages
+unfolding examples readMessage andThen refuseIf isPlan isCount isValue isVote isInRange bytesOf bytesOf1b messageLength slotOf mapLength isKnown ones
+    fieldsMessage decode hasOrder all isTableLength slotsUpTo slots isZero readSlot readTable allUnused isOrdered isTable usedMessages
     messages sameBytes storeAt sameMessage placeFrom placeIn messageAt sending slotNumber whoLimit areZero areArguments isEvent voteAt
     isVoteState areVotes acceptorJudged voteOf phase1b phase2b acceptorReceive acceptorVerdict acceptorStep countAcceptors isMajority
     isQuorum any is1b is2a is2b higher reportOf highestReport proposal chosen isChosen2b decided forAll owns leaderJudged phase2aMessage

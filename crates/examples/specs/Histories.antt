@@ -12,12 +12,13 @@
 use Prim.Native.Nat.{ℕ}
 use mathlib.Core.List.{List, [], _∷_, _++_, map}
 use mathlib.Core.Path.{_≡_, refl}
+use lib.Count.{ones}
 use lib.ListN.{replicate}
 use Rattle.message.specs.declared.Plan.{Plan}
 use Rattle.message.specs.declared.Message.the-variants.{Decision}
 use Rattle.message.specs.Outcome.{Outcome, accepted, refused, andThen, refuseIf}
 use Rattle.message.specs.Plan.{isPlan, isCount}
-use Rattle.message.specs.Form.{isValue, isVote, isInRange, bytesOf, bytesOf1b, messageLength, slotOf, mapLengths, mapLength, fieldsMessage, decode, hasOrder}
+use Rattle.message.specs.Form.{isValue, isVote, isInRange, bytesOf, bytesOf1b, messageLength, slotOf, isKnown, mapLength, fieldsMessage, decode, hasOrder}
 use Rattle.message.specs.Codec.{readMessage}
 use Rattle.slots.specs.All.{all}
 use Rattle.slots.specs.Table.{isTableLength, slotsUpTo, slots, isZero, readSlot, readTable, allUnused, isOrdered, isTable, usedMessages, messages}
@@ -68,8 +69,8 @@ pub orders-end :
     × (tablesAfter order fresh aborting .states ≡ 3 ∷ [])
     × (answers order fresh declining ≡ accepted (Slot 0) ∷ [])
     × (tablesAfter order fresh declining .states ≡ 3 ∷ [])
-unfolding readMessage andThen refuseIf isPlan isCount isValue isVote isInRange bytesOf bytesOf1b messageLength slotOf mapLengths
-    mapLength fieldsMessage decode hasOrder all isTableLength slotsUpTo slots isZero readSlot readTable allUnused isOrdered isTable usedMessages
+unfolding readMessage andThen refuseIf isPlan isCount isValue isVote isInRange bytesOf bytesOf1b messageLength slotOf mapLength isKnown ones
+    fieldsMessage decode hasOrder all isTableLength slotsUpTo slots isZero readSlot readTable allUnused isOrdered isTable usedMessages
     messages sameBytes storeAt sameMessage placeFrom placeIn messageAt sending slotNumber whoLimit areZero areArguments isEvent
     areStates rmJudged rmChoose rmReceiveDecision rmReceive rmKind rmVerdict rmStep voteAt
     isVoteState areVotes acceptorJudged voteOf phase1b phase2b acceptorReceive acceptorVerdict acceptorStep countAcceptors isMajority
@@ -102,8 +103,8 @@ pub lists-end :
     × (recordRun order fresh (0 ∷ 0 ∷ 0 ∷ 0 ∷ []) (98 ∷ 99 ∷ []) ≡ record { answer = refused 19; tables = fresh; answers = 98 ∷ 99 ∷ [] })
     × (recordRun (record { rms = 0; acceptors = 1; leaders = 1; order = 0x0102 }) fresh (0 ∷ []) [] .answer ≡ refused 1)
     × (recordRun order (tablesOf (4 ∷ []) (replicate 3 0) (replicate 48 0) (replicate 48 0)) (0 ∷ []) [] .answer ≡ refused 3)
-unfolding readMessage andThen refuseIf isPlan isCount isValue isVote isInRange bytesOf bytesOf1b messageLength slotOf mapLengths
-    mapLength fieldsMessage decode hasOrder all isTableLength slotsUpTo slots isZero readSlot readTable allUnused isOrdered isTable usedMessages
+unfolding readMessage andThen refuseIf isPlan isCount isValue isVote isInRange bytesOf bytesOf1b messageLength slotOf mapLength isKnown ones
+    fieldsMessage decode hasOrder all isTableLength slotsUpTo slots isZero readSlot readTable allUnused isOrdered isTable usedMessages
     messages sameBytes storeAt sameMessage placeFrom placeIn messageAt sending slotNumber whoLimit areZero areArguments isEvent
     areStates rmJudged rmChoose rmReceiveDecision rmReceive rmKind rmVerdict rmStep voteAt
     isVoteState areVotes acceptorJudged voteOf phase1b phase2b acceptorReceive acceptorVerdict acceptorStep countAcceptors isMajority
@@ -127,8 +128,8 @@ pub mixed-ends :
     (answers order fresh mixing
     ≡ accepted (Slot 0) ∷ accepted (Slot 1) ∷ refused 7 ∷ accepted Quiet ∷ accepted (Slot 2) ∷ accepted Quiet ∷ [])
     × (tablesAfter order fresh mixing .states ≡ 2 ∷ [])
-unfolding readMessage andThen refuseIf isPlan isCount isValue isVote isInRange bytesOf bytesOf1b messageLength slotOf mapLengths
-    mapLength fieldsMessage decode hasOrder all isTableLength slotsUpTo slots isZero readSlot readTable allUnused isOrdered isTable usedMessages
+unfolding readMessage andThen refuseIf isPlan isCount isValue isVote isInRange bytesOf bytesOf1b messageLength slotOf mapLength isKnown ones
+    fieldsMessage decode hasOrder all isTableLength slotsUpTo slots isZero readSlot readTable allUnused isOrdered isTable usedMessages
     messages sameBytes storeAt sameMessage placeFrom placeIn messageAt sending slotNumber whoLimit areZero areArguments isEvent
     areStates rmJudged rmChoose rmReceiveDecision rmReceive rmKind rmVerdict rmStep voteAt
     isVoteState areVotes acceptorJudged voteOf phase1b phase2b acceptorReceive acceptorVerdict acceptorStep countAcceptors isMajority
@@ -149,8 +150,8 @@ pub places :
     ≡ tablesOf (0 ∷ 0 ∷ 1 ∷ []) (replicate 21 0 ++ (3 ∷ replicate 5 0))
     ((0x29 ∷ 2 ∷ 3 ∷ 1 ∷ 2 ∷ 0 ∷ 0 ∷ 0 ∷ []) ++ ((0x27 ∷ 2 ∷ 1 ∷ 3 ∷ 1 ∷ 2 ∷ 0 ∷ 0 ∷ []) ++ ((0x39 ∷ 2 ∷ 0 ∷ 1 ∷ 1 ∷ 2 ∷ 0 ∷ 0 ∷ []) ++ replicate 8 0)))
     (replicate 16 0 ++ ((0x27 ∷ 2 ∷ 1 ∷ 3 ∷ 1 ∷ 2 ∷ 0 ∷ 0 ∷ []) ++ replicate 8 0))
-unfolding readMessage andThen refuseIf isPlan isCount isValue isVote isInRange bytesOf bytesOf1b messageLength slotOf mapLengths
-    mapLength fieldsMessage decode hasOrder all isTableLength slotsUpTo slots isZero readSlot readTable allUnused isOrdered isTable usedMessages
+unfolding readMessage andThen refuseIf isPlan isCount isValue isVote isInRange bytesOf bytesOf1b messageLength slotOf mapLength isKnown ones
+    fieldsMessage decode hasOrder all isTableLength slotsUpTo slots isZero readSlot readTable allUnused isOrdered isTable usedMessages
     messages sameBytes storeAt sameMessage placeFrom placeIn messageAt sending slotNumber whoLimit areZero areArguments isEvent
     areStates rmJudged rmChoose rmReceiveDecision rmReceive rmKind rmVerdict rmStep voteAt
     isVoteState areVotes acceptorJudged voteOf phase1b phase2b acceptorReceive acceptorVerdict acceptorStep countAcceptors isMajority
@@ -169,7 +170,7 @@ pub order-examples : map (readMessage order)
     ∷ (0x30 ∷ 1 ∷ 2 ∷ 1 ∷ [])
     ∷ [])
     ≡ refused 15 ∷ refused 17 ∷ refused 18 ∷ refused 18 ∷ accepted (Decision 1) ∷ refused 18 ∷ []
-unfolding readMessage refuseIf isPlan isCount isValue isVote isInRange mapLengths mapLength fieldsMessage decode hasOrder
+unfolding readMessage refuseIf isPlan isCount isValue isVote isInRange mapLength isKnown ones fieldsMessage decode hasOrder
 order-examples = refl
 
 -- an event call on a record of one weight, one acceptor and one leader: its answer
@@ -205,8 +206,8 @@ pub refusals :
     × (on (1 ∷ []) (0 ∷ 0 ∷ 0 ∷ []) unused unused (0 ∷ 0 ∷ 0 ∷ 0 ∷ []) ≡ refused 12)
     × (on (0 ∷ []) (0 ∷ 0 ∷ 0 ∷ []) (0x30 ∷ 2 ∷ 1 ∷ 2 ∷ 0 ∷ 0 ∷ 0 ∷ 0 ∷ []) unused (0 ∷ 0 ∷ 0 ∷ 0 ∷ []) ≡ refused 13)
     × (on (0 ∷ []) (0 ∷ 0 ∷ 0 ∷ []) (0x27 ∷ 0 ∷ 0 ∷ 1 ∷ 1 ∷ 2 ∷ 0 ∷ 0 ∷ []) (0x27 ∷ 0 ∷ 0 ∷ 2 ∷ 1 ∷ 2 ∷ 0 ∷ 0 ∷ []) (4 ∷ 0 ∷ 0 ∷ 0 ∷ []) ≡ refused 14)
-unfolding readMessage andThen refuseIf isPlan isCount isValue isVote isInRange bytesOf bytesOf1b messageLength slotOf mapLengths
-    mapLength fieldsMessage decode hasOrder all isTableLength slotsUpTo slots isZero readSlot readTable allUnused isOrdered isTable usedMessages
+unfolding readMessage andThen refuseIf isPlan isCount isValue isVote isInRange bytesOf bytesOf1b messageLength slotOf mapLength isKnown ones
+    fieldsMessage decode hasOrder all isTableLength slotsUpTo slots isZero readSlot readTable allUnused isOrdered isTable usedMessages
     messages sameBytes storeAt sameMessage placeFrom placeIn messageAt sending slotNumber whoLimit areZero areArguments isEvent
     areStates rmJudged rmChoose rmReceiveDecision rmReceive rmKind rmVerdict rmStep voteAt
     isVoteState areVotes acceptorJudged voteOf phase1b phase2b acceptorReceive acceptorVerdict acceptorStep countAcceptors isMajority

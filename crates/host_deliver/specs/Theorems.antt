@@ -5,10 +5,11 @@
 use Prim.Native.Nat.{ℕ, _+_, _<_}
 use mathlib.Core.List.{List, [], _∷_}
 use mathlib.Core.Path.{_≡_, refl, ap}
+use lib.Count.{ones}
 use lib.ListN.{replicate}
 use Rattle.message.specs.Outcome.{accepted, refused, andThen, refuseIf}
 use Rattle.message.specs.Plan.{isCount, isPlan}
-use Rattle.message.specs.Form.{isValue, isVote, isInRange, bytesOf1b, bytesOf, messageLength, slotOf, mapLengths, mapLength, fieldsMessage, decode, hasOrder}
+use Rattle.message.specs.Form.{isValue, isVote, isInRange, bytesOf1b, bytesOf, messageLength, slotOf, isKnown, mapLength, fieldsMessage, decode, hasOrder}
 use Rattle.message.specs.Codec.{readMessage}
 use Rattle.slots.specs.All.{all}
 use Rattle.slots.specs.Table.{isTableLength, slotsUpTo, slots, isZero, readSlot, readTable, allUnused, isOrdered, isTable, usedMessages, messages}
@@ -43,7 +44,7 @@ pub deliver-examples :
     × (hostDeliveryOf (deliverStep (planOf 0 1 1 0x0102) (replicate 7 0) (0x31 ∷ [])) ≡ hostDelivery 65537 (replicate 7 0))
     × (hostDeliveryOf (deliverStep (planOf 1 1 1 0x0102) (replicate 7 0) (0x31 ∷ [])) ≡ hostDelivery 65538 (replicate 7 0))
     × (hostDeliveryOf (deliverStep (planOf 1 1 1 0x0102) (0x31 ∷ replicate 7 0) (0x31 ∷ [])) ≡ hostDelivery 65541 (0x31 ∷ replicate 7 0))
-unfolding deliverStep deliverJudged readMessage andThen refuseIf isPlan isCount mapLength mapLengths decode fieldsMessage hasOrder isInRange isVote isValue
+unfolding deliverStep deliverJudged readMessage andThen refuseIf isPlan isCount mapLength isKnown ones decode fieldsMessage hasOrder isInRange isVote isValue
     bytesOf bytesOf1b messageLength slotOf all isTableLength slotsUpTo slots isZero readSlot readTable allUnused isOrdered isTable usedMessages
     messages sameBytes storeAt sameMessage placeFrom placeIn
 deliver-examples = (refl, refl, refl, refl, refl, refl, refl, refl, refl, refl)

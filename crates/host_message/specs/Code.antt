@@ -1,5 +1,5 @@
 -- The reader and the writer for other languages: what they are given and answer, as numbers.
---     fieldsOf, messageOf         a message as its map and all five fields, and back
+--     fieldsOf, messageOf         a message as its map and all five fields, and back; 15 for an unknown map
 --     readCode                    the reader's answer: byte 0 the refusal or 0, bytes 1 to 6 the map and the fields
 --     hostWrite, writtenCode      the writer by map and fields; its answer: the eight bytes, or byte 1 the refusal
 -- Their laws are in Code/Laws.antt, those of the writer's number in Code/Writing.antt. Assumes nothing.
@@ -17,7 +17,7 @@ use Rattle.message.specs.declared.Message.the-variants.{Phase1a, Phase1b, Phase
 use Rattle.message.specs.declared.Written.{Written}
 use Rattle.message.specs.Outcome.{Outcome, accepted, refused, refuseIf}
 use Rattle.message.specs.Plan.{isPlan}
-use Rattle.message.specs.Form.{map1a, map1b, map1bVote, map2a, map2b, mapDecision}
+use Rattle.message.specs.Form.{map1a, map1b, map1bVote, map2a, map2b, mapDecision, isKnown}
 use Rattle.message.specs.Codec.{written, writeMessage}
 use Rattle.host_code.specs.Code.{packed}
 
@@ -35,16 +35,19 @@ fieldsOf (Phase2b ins acc bal val) = map2b ∷ ins ∷ acc ∷ 0 ∷ bal ∷ val
 fieldsOf (Decision val) = mapDecision ∷ 0 ∷ 0 ∷ 0 ∷ 0 ∷ val ∷ []
 
 -- the message with this map; fields that it does not have are not looked at. Document 01's writer is given a message, which has a kind:
--- for another map there is none, and the number is the reader's for an unknown map
+-- the message with a known map, of the fields that it has
+unfoldable pub messageWith : ℕ → ℕ → ℕ → ℕ → ℕ → ℕ → Message
+messageWith map ins acc mbal bal val =
+    cond (eqb map map1a) (Phase1a ins bal)
+    (cond (eqb map map1b) (Phase1b ins acc mbal None)
+    (cond (eqb map map1bVote) (Phase1b ins acc mbal (Cast bal val))
+    (cond (eqb map map2a) (Phase2a ins bal val)
+    (cond (eqb map map2b) (Phase2b ins acc bal val)
+    (Decision val)))))
+
+-- and 15 for an unknown map
 unfoldable pub messageOf : ℕ → ℕ → ℕ → ℕ → ℕ → ℕ → Outcome Message
-messageOf map ins acc mbal bal val =
-    cond (eqb map map1a) (accepted (Phase1a ins bal))
-    (cond (eqb map map1b) (accepted (Phase1b ins acc mbal None))
-    (cond (eqb map map1bVote) (accepted (Phase1b ins acc mbal (Cast bal val)))
-    (cond (eqb map map2a) (accepted (Phase2a ins bal val))
-    (cond (eqb map map2b) (accepted (Phase2b ins acc bal val))
-    (cond (eqb map mapDecision) (accepted (Decision val))
-    (refused 15))))))
+messageOf map ins acc mbal bal val = refuseIf (not (isKnown map)) 15 (accepted (messageWith map ins acc mbal bal val))
 
 -- byte 0 the refusal's number, and for a message 0; then its map and its fields
 abbrev pub readCode : Outcome Message → ℕ

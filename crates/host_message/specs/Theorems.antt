@@ -11,14 +11,13 @@
 --     one-written           no number stands for two answers of the writer, whose eight bytes are bytes
 --     read-examples, write-examples, other-examples     numbers that the reader and the writer give, computed: every field has a value of its own
 -- Assumes nothing.
-use Prim.Native.Nat.{ℕ, _+_, _*_, _-_, _%_, _≤_, _<_}
+use Prim.Native.Nat.{ℕ, _*_, _-_, _%_, _≤_, _<_}
 use mathlib.Core.Bool.{Bool, true, false, not}
 use mathlib.Core.List.{List, [], _∷_}
 use mathlib.Core.Logic.{_⊎_, inl, inr, _↔_}
 use mathlib.Core.Path.{_≡_, refl, sym, _∙_, ap}
 use native.Mathlib.Omega.{arith}
-use lib.Dec.{eqb}
-use borrow.Author.Tests.{ne-eqb}
+use lib.Count.{ones}
 use lib.ListN.{length, getD, take, drop, replicate}
 use Rattle.message.specs.declared.Plan.{Plan}
 use Rattle.message.specs.declared.Vote.the-variants.{None, Cast}
@@ -29,16 +28,14 @@ use Rattle.message.specs.Outcome.{Outcome, accepted, refused}
 use Rattle.message.specs.Outcome.Laws.{accepted-inj, accepted-not-refused}
 use Rattle.message.specs.Outcome.{refuseIf}
 use Rattle.message.specs.Plan.{isCount, isPlan}
-use Rattle.message.specs.Form.{isValue, isVote, isInRange, bytesOf1b, bytesOf, messageLength, slotSize, slotOf, mapLengths, mapLength, fieldsMessage, decode, hasOrder}
-use Rattle.message.specs.Form.{map1a, map1b, map1bVote, map2a, map2b, mapDecision}
-use Rattle.message.specs.Form.Maps.{length-1a, length-1b, length-1b-vote, length-2a, length-2b, length-decision}
-use Rattle.message.specs.Form.Laws.{messageCases, mapLength-bytesOf, take-slotOf, drop-slotOf, first-bytesOf}
+use Rattle.message.specs.Form.{isValue, isVote, isInRange, bytesOf1b, bytesOf, messageLength, slotSize, slotOf, isKnown, mapLength, fieldsMessage, decode, hasOrder}
+use Rattle.message.specs.Form.Laws.{unknown-length, messageCases, mapLength-bytesOf, take-slotOf, drop-slotOf, first-bytesOf}
 use Rattle.message.specs.Codec.{readMessage, written, writeMessage}
 use Rattle.message.specs.Codec.Laws.{writeMessage-plan}
 use Rattle.message.specs.Theorems.{reader-numbers}
 use Rattle.host_code.specs.Code.{planOf, packed, areBytes}
 use Rattle.host_code.specs.Code.Laws.{packed-first, packed-inj}
-use Rattle.host_message.specs.Code.{fieldsOf, messageOf, readCode, writeOutcome, hostWrite, writtenCode}
+use Rattle.host_message.specs.Code.{fieldsOf, messageWith, messageOf, readCode, writeOutcome, hostWrite, writtenCode}
 use Rattle.host_message.specs.Code.Laws.{written-bytes}
 use Rattle.host_message.specs.Code.Writing.{written-first, refused-code, written-inj, host-written}
 
@@ -58,7 +55,7 @@ message-of-zero p bytes = go (readMessage p bytes) refl
 pub messageOf-fieldsOf : (m : Message)
     → messageOf (getD (fieldsOf m) 0 0) (getD (fieldsOf m) 1 0) (getD (fieldsOf m) 2 0) (getD (fieldsOf m) 3 0) (getD (fieldsOf m) 4 0) (getD (fieldsOf m) 5 0)
     ≡ accepted m
-unfolding messageOf
+unfolding messageOf messageWith isKnown refuseIf
 messageOf-fieldsOf = messageCases _ (λ i b. refl) (λ i a m. refl) (λ i a m b v. refl) (λ i b v. refl) (λ i a b v. refl) (λ v. refl)
 
 length-fieldsOf : (m : Message) → length (fieldsOf m) ≡ 6
@@ -89,7 +86,7 @@ pub message-means : (i a m b v : ℕ)
     × (messageOf 0x39 i a m b v ≡ accepted (Phase2a i b v))
     × (messageOf 0x3B i a m b v ≡ accepted (Phase2b i a b v))
     × (messageOf 0x30 i a m b v ≡ accepted (Decision v))
-unfolding messageOf
+unfolding messageOf messageWith isKnown refuseIf
 message-means i a m b v = (refl, refl, refl, refl, refl, refl)
 
 -- the writer by map and fields gives for a message what document 01's writer gives, under the same plan; 1 for a plan out of range, and then 15
@@ -111,20 +108,7 @@ module _ (p : Plan) where
 
   pub host-unknown : (map ins acc mbal bal val : ℕ) → isPlan p ≡ true → mapLength map ≡ 0 → hostWrite p map ins acc mbal bal val ≡ written p (refused 15)
   unfolding hostWrite refuseIf messageOf
-  host-unknown map ins acc mbal bal val good none =
-      rw (
-        good,
-        other map1a 4 length-1a,
-        other map1b 5 length-1b,
-        other map1bVote 7 length-1b-vote,
-        other map2a 5 length-2a,
-        other map2b 6 length-2b,
-        other mapDecision 3 length-decision,
-      )
-    where
-      -- a map with a length
-      other : (k n : ℕ) → mapLength k ≡ n + 1 → eqb map k ≡ false
-      other k n some = ne-eqb map k (λ e. let z : n + 1 ≡ 0 = sym some ∙ ap mapLength (sym e) ∙ none in omega arith)
+  host-unknown map ins acc mbal bal val good none = rw (good, unknown-length map none)
 
 -- a refusal of the reader is its number
 pub read-refused : (k : ℕ) → readCode (refused k) ≡ k
@@ -181,7 +165,7 @@ pub read-examples : (readCode (readMessage (planOf 16 7 4 0x0102) (0x3F ∷ 5 �
     × (readCode (readMessage (planOf 1 2 1 0x0102) (0x39 ∷ 1 ∷ 0 ∷ 1 ∷ 1 ∷ 2 ∷ [])) ≡ 17)
     × (readCode (readMessage (planOf 2 1 1 0x0201) (0x39 ∷ 1 ∷ 0 ∷ 1 ∷ 1 ∷ 2 ∷ [])) ≡ 18)
     × (readCode (readMessage (planOf 1 1 1 0x0102) (0 ∷ [])) ≡ 15)
-unfolding readMessage refuseIf isPlan isCount mapLength mapLengths decode fieldsMessage hasOrder isInRange isVote isValue
+unfolding readMessage refuseIf isPlan isCount mapLength isKnown ones decode fieldsMessage hasOrder isInRange isVote isValue
 read-examples = (refl, refl, refl, refl, refl, refl)
 
 -- the same two messages; a 1a, whose acceptor, mbal and value are not looked at; an instance out of range; no map
@@ -190,7 +174,7 @@ pub write-examples : (writtenCode (hostWrite (planOf 16 7 4 0x0102) 0x3F 5 3 9 8
     × (writtenCode (hostWrite (planOf 2 1 1 0x0102) 0x29 1 77 77 4 77) ≡ 0x0000000201040129)
     × (writtenCode (hostWrite (planOf 1 2 1 0x0102) 0x29 1 0 0 4 0) ≡ 0x1100)
     × (writtenCode (hostWrite (planOf 1 1 1 0x0102) 0x11 0 0 0 0 1) ≡ 0x0F00)
-unfolding hostWrite messageOf writtenCode writeMessage refuseIf isPlan isCount isInRange isVote isValue bytesOf bytesOf1b messageLength slotOf
+unfolding hostWrite messageOf messageWith isKnown writtenCode writeMessage refuseIf isPlan isCount isInRange isVote isValue bytesOf bytesOf1b messageLength slotOf
 write-examples = (refl, refl, refl, refl, refl)
 
 -- the other three messages, read and written: 1a and 1b of instance 5, 2a at ballot 8 for 2, and Abort
@@ -200,6 +184,6 @@ pub other-examples : (readCode (readMessage (planOf 16 7 4 0x0102) (0x29 ∷ 5 �
     × (writtenCode (hostWrite (planOf 16 7 4 0x0102) 0x27 5 3 9 8 2) ≡ 0x020109030527)
     × (writtenCode (hostWrite (planOf 16 7 4 0x0102) 0x39 5 3 9 8 2) ≡ 0x020102080539)
     × (writtenCode (hostWrite (planOf 16 7 4 0x0102) 0x30 5 3 9 8 2) ≡ 0x02010230)
-unfolding readMessage refuseIf isPlan isCount mapLength mapLengths decode fieldsMessage hasOrder isInRange isVote isValue hostWrite messageOf writtenCode
+unfolding readMessage refuseIf isPlan isCount mapLength isKnown ones decode fieldsMessage hasOrder isInRange isVote isValue hostWrite messageOf messageWith writtenCode
     writeMessage bytesOf bytesOf1b messageLength slotOf
 other-examples = (refl, refl, refl, refl, refl, refl)

@@ -5,13 +5,14 @@
 //     paxos_commit_length     how many bytes the form with this map has
 //
 // What the numbers mean stands in specs/Code.antt.
+ghost use Prim.Native.Nat.{_*_};
 ghost use mathlib.Core.List.{_∷_};
 ghost use mathlib.Core.Path.{_≡_};
 ghost use lib.ListN.{length, getD};
 ghost use Rattle.message.specs.Form.{mapLength, decode};
-ghost use Rattle.message.specs.Codec.{readOutcome, readMessage};
+ghost use Rattle.message.specs.Codec.{readMessage, writeMessage};
 ghost use Rattle.host_code.specs.Code.{planOf, packed};
-ghost use Rattle.host_message.specs.Code.{fieldsOf, messageOf, readCode, hostWrite, writtenCode};
+ghost use Rattle.host_message.specs.Code.{fieldsOf, readCode, hostWrite, writtenCode};
 use host_code::pack;
 use message::ACC;
 use message::BAL_1A;
@@ -28,7 +29,6 @@ use message::MAP_DECISION;
 use message::MBAL_1B;
 use message::Message;
 use message::Plan;
-use message::Read;
 use message::VAL_1B;
 use message::VAL_2A;
 use message::VAL_2B;
@@ -105,39 +105,11 @@ pub extern "C" fn paxos_commit_read(
     message_code(bytes)
 }
 
-// The message with a map and fields, of which those that it does not have are not looked at; 15 for another map.
-fn message_of(map: u8, ins: u8, acc: u8, mbal: u8, bal: u8, val: u8) -> Read
-    ensures { λ r. ⌜ readOutcome r ≡ messageOf map ins acc mbal bal val ⌝ }
+// The number of a writer's refusal.
+fn refusal_code(number: u8) -> u64
+    ensures { λ r. ⌜ r ≡ 256 * number ⌝ }
 {
-    if map == MAP_1A {
-        return Read::Message(Message::Phase1a { ins, bal });
-    }
-    if map == MAP_1B {
-        return Read::Message(Message::Phase1b {
-            ins,
-            acc,
-            mbal,
-            vote: Vote::None,
-        });
-    }
-    if map == MAP_1B_VOTE {
-        return Read::Message(Message::Phase1b {
-            ins,
-            acc,
-            mbal,
-            vote: Vote::Cast { bal, val },
-        });
-    }
-    if map == MAP_2A {
-        return Read::Message(Message::Phase2a { ins, bal, val });
-    }
-    if map == MAP_2B {
-        return Read::Message(Message::Phase2b { ins, acc, bal, val });
-    }
-    if map == MAP_DECISION {
-        return Read::Message(Message::Decision { val });
-    }
-    Read::Refused(15)
+    256 * (number as u64)
 }
 
 // The number of a writer's answer.
@@ -145,16 +117,23 @@ fn written_code(written: Written) -> u64
     ensures { λ r. ⌜ r ≡ writtenCode written ⌝ }
 {
     if written.number != 0 {
-        return 256 * (written.number as u64);
+        return refusal_code(written.number);
     }
     let b = written.bytes;
     pack(b[0], b[1], b[2], b[3], b[4], b[5], b[6], b[7])
 }
 
+// The number of what the writer answers for a message.
+fn write_code(plan: Plan, m: Message) -> u64
+    ensures { λ r. ⌜ r ≡ writtenCode (writeMessage plan m) ⌝ }
+{
+    written_code(codec::write_message(plan, m))
+}
+
 // The writer, of the message with a map and fields, of which those that it does not have are not looked at. The number's bytes, the
 // lowest first, are the message followed by zeros; its first byte is the map, which is never 0 and stands for the length
 // (paxos_commit_length). Else byte 0 is 0 and byte 1 the refusal: 1, 15 for another map, or 17. Document 01's writer has no 15, since it
-// is given a message, which has a kind.
+// is given a message, which has a kind. The maps are in two groups of three, as in `refusal`.
 #[no_mangle]
 pub extern "C" fn paxos_commit_write(
     rms: u8,
@@ -177,41 +156,51 @@ pub extern "C" fn paxos_commit_write(
         order,
     };
     if !message::is_plan(plan) {
-        return 256;
+        return refusal_code(1);
     }
-    let answer = message_of(map, ins, acc, mbal, bal, val);
-    let Read::Message(m) = answer else {
-        return 256 * (codec::read_refusal(answer) as u64);
-    };
-    written_code(codec::write_message(plan, m))
+    if !message::is_known(map) {
+        return refusal_code(15);
+    }
+    if map < MAP_2A {
+        if map == MAP_1A {
+            return write_code(plan, Message::Phase1a { ins, bal });
+        }
+        if map == MAP_1B {
+            let vote = Vote::None;
+            return write_code(
+                plan,
+                Message::Phase1b {
+                    ins,
+                    acc,
+                    mbal,
+                    vote,
+                },
+            );
+        }
+        return write_code(plan, Message::Decision { val });
+    }
+    if map == MAP_2A {
+        return write_code(plan, Message::Phase2a { ins, bal, val });
+    }
+    if map == MAP_2B {
+        return write_code(plan, Message::Phase2b { ins, acc, bal, val });
+    }
+    let vote = Vote::Cast { bal, val };
+    write_code(
+        plan,
+        Message::Phase1b {
+            ins,
+            acc,
+            mbal,
+            vote,
+        },
+    )
 }
 
-// How many bytes the message has that begins with this map; 0 for what is no map, as the 0 that a refusal of the writer begins with. By
-// cases, so that each length is found when this is compiled; in two groups of three, as in `refusal`.
+// How many bytes the message has that begins with this map; 0 for what is no map, as the 0 that a refusal of the writer begins with.
 #[no_mangle]
 pub extern "C" fn paxos_commit_length(map: u8) -> u32
     ensures { λ r. ⌜ r ≡ mapLength map ⌝ }
 {
-    if map < MAP_2A {
-        if map == MAP_1A {
-            return message::map_length(MAP_1A) as u32;
-        }
-        if map == MAP_1B {
-            return message::map_length(MAP_1B) as u32;
-        }
-        if map == MAP_DECISION {
-            return message::map_length(MAP_DECISION) as u32;
-        }
-        return 0;
-    }
-    if map == MAP_2A {
-        return message::map_length(MAP_2A) as u32;
-    }
-    if map == MAP_2B {
-        return message::map_length(MAP_2B) as u32;
-    }
-    if map == MAP_1B_VOTE {
-        return message::map_length(MAP_1B_VOTE) as u32;
-    }
-    0
+    message::map_length(map) as u32
 }

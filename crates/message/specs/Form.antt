@@ -1,18 +1,19 @@
--- Messages and their one byte form (document 01, "Message bytes"; document 02, Paper 1: the order number, slots of 8 bytes).
+-- Messages and their one byte form (document 01, "Message bytes"; document 02, Paper 1: the order number, slots of 8 bytes; Paper 3: lengths).
 --     isValue, isVote, isInRange    the ranges of a message's fields; out of range is refusal 17
 --     map1a .. mapDecision          the six bit maps
 --     orderBytes                    the order number as two bytes
 --     bytesOf, messageLength        the bytes of a message: its map, its fields, the order number
 --     slotSize, slotOf              a slot's size, and a message followed by zeros
---     mapLengths, mapLength         the length that a bit map stands for, 0 for an unknown one
+--     isKnown, mapLength            the known bit maps, and the length that one stands for, 0 for an unknown one
 --     fieldsMessage, decode         the message that a known map and the bytes after it make
 --     hasOrder                      the plan's order number stands where a message of this length has it
 -- Their laws are in Form/Laws.antt and, map by map, in Form/Maps.antt. Assumes nothing.
 pub mod Laws
 pub mod Maps
-use Prim.Native.Nat.{ℕ, _-_, _/_, _%_}
-use mathlib.Core.Bool.{Bool, true, _&&_, cond}
+use Prim.Native.Nat.{ℕ, _+_, _-_, _/_, _%_}
+use mathlib.Core.Bool.{Bool, true, _&&_, _||_, cond}
 use mathlib.Core.List.{List, [], _∷_, _++_}
+use lib.Count.{ones}
 use lib.Dec.{ltb, leb, eqb}
 use lib.ListN.{length, getD, replicate}
 use Rattle.message.specs.declared.Plan.{Plan}
@@ -87,17 +88,13 @@ slotSize = 8
 unfoldable pub slotOf : Plan → Message → List ℕ
 slotOf p m = bytesOf p m ++ replicate (slotSize - messageLength p m) 0
 
--- the constant table: entry `map` is the length of the message that `map` begins, and 0 for an unknown map
-unfoldable pub mapLengths : List ℕ
-mapLengths =
-    0 ∷ 0 ∷ 0 ∷ 0 ∷ 0 ∷ 0 ∷ 0 ∷ 0 ∷ 0 ∷ 0 ∷ 0 ∷ 0 ∷ 0 ∷ 0 ∷ 0 ∷ 0
-    ∷ 0 ∷ 0 ∷ 0 ∷ 0 ∷ 0 ∷ 0 ∷ 0 ∷ 0 ∷ 0 ∷ 0 ∷ 0 ∷ 0 ∷ 0 ∷ 0 ∷ 0 ∷ 0
-    ∷ 0 ∷ 0 ∷ 0 ∷ 0 ∷ 0 ∷ 0 ∷ 0 ∷ 6 ∷ 0 ∷ 5 ∷ 0 ∷ 0 ∷ 0 ∷ 0 ∷ 0 ∷ 0
-    ∷ 4 ∷ 0 ∷ 0 ∷ 0 ∷ 0 ∷ 0 ∷ 0 ∷ 0 ∷ 0 ∷ 6 ∷ 0 ∷ 7 ∷ 0 ∷ 0 ∷ 0 ∷ 8 ∷ []
+-- the six maps
+unfoldable pub isKnown : ℕ → Bool
+isKnown map = eqb map map1a || eqb map map1b || eqb map map1bVote || eqb map map2a || eqb map map2b || eqb map mapDecision
 
--- the table's entry; a first byte above 3F is unknown too
+-- the length of the message that a map begins: 2 and the count of its ones; 0 for an unknown map
 unfoldable pub mapLength : ℕ → ℕ
-mapLength map = getD mapLengths map 0
+mapLength map = cond (isKnown map) (2 + ones map) 0
 
 -- the message that a known map and the five bytes after it make
 unfoldable pub fieldsMessage : ℕ → ℕ → ℕ → ℕ → ℕ → ℕ → Message

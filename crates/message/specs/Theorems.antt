@@ -18,6 +18,7 @@
 --     map-rule            bit k of the map stands exactly where field k is there
 --     fields-rule         the bytes after the map are the fields that are there, in this order
 --     map-unknown, map-others, map-lengths     a map without bit 5 is unknown, one above 3F, and every other than six; these and their lengths
+--     map-ones, map-none     the length of a known map is 2 plus the count of its ones, that of an unknown one 0
 --     order-bytes, order-compared-words     the order number, high byte first; what row 18 compares
 -- Assumes nothing.
 use Prim.Native.Nat.{ℕ, zero, suc, _+_, _*_, _-_, _/_, _%_, _^_, _≤_, _<_}
@@ -26,6 +27,7 @@ use mathlib.Core.List.{List, [], _∷_, _++_, map}
 use mathlib.Core.Logic.{_⊎_, inl, inr, _↔_}
 use mathlib.Core.Path.{_≡_, refl, sym, _∙_, ap}
 use native.Mathlib.Omega.{arith}
+use lib.Count.{ones}
 use lib.Dec.{eqb}
 use lib.ListN.{length, getD, take, drop, replicate}
 use borrow.Author.Tests.{eq-eqb, eqb-true}
@@ -38,8 +40,9 @@ use Rattle.message.specs.declared.Message.the-variants.{Phase1a, Phase1b
 use Rattle.message.specs.declared.Written.{Written}
 use Rattle.message.specs.Outcome.{Outcome, accepted, refused}
 use Rattle.message.specs.Plan.{isPlan}
-use Rattle.message.specs.Form.{slotSize, bytesOf, bytesOf1b, orderBytes, mapLengths, mapLength, decode, isInRange, hasOrder}
-use Rattle.message.specs.Form.Laws.{messageCases, decode-bytesOf, bytesOf-order, mapLength-unknown, mapLength-bytesOf, hasOrder-bytes, hasOrder-other}
+use Rattle.message.specs.Form.{slotSize, bytesOf, bytesOf1b, orderBytes, isKnown, mapLength, decode, isInRange, hasOrder}
+use Rattle.message.specs.Form.Laws.{messageCases, decode-bytesOf, bytesOf-order, hasOrder-bytes, hasOrder-other}
+use Rattle.message.specs.Form.Laws.{knownMap, mapLength-known, mapLength-none, mapLength-unknown, mapLength-bytesOf}
 use Rattle.message.specs.Codec.{readMessage, writeMessage}
 use Rattle.message.specs.Rows.{Rows, end, row, here, below, Applies, Lowest}
 use Rattle.message.specs.Rows.Laws.{isAscending, lowest-of-ruled}
@@ -211,9 +214,28 @@ pub map-others : (map : ℕ)
     → (map ≡ 0x29 → ⊥) → (map ≡ 0x27 → ⊥) → (map ≡ 0x3F → ⊥) → (map ≡ 0x39 → ⊥) → (map ≡ 0x3B → ⊥) → (map ≡ 0x30 → ⊥) → mapLength map ≡ 0
 map-others = mapLength-unknown
 
+-- "The length of a known map becomes 2 plus the count of its ones" (document 02, Paper 3): bit by bit, and none stands above the sixth
+pub map-ones : (map : ℕ) → isKnown map ≡ true
+    → (map < 64) × (mapLength map ≡ 2 + (map % 2 + map / 2 % 2 + map / 4 % 2 + map / 8 % 2 + map / 16 % 2 + map / 32 % 2))
+unfolding mapLength isKnown ones
+map-ones map known =
+    knownMap (λ (k : ℕ). (k < 64) × (mapLength k ≡ 2 + (k % 2 + k / 2 % 2 + k / 4 % 2 + k / 8 % 2 + k / 16 % 2 + k / 32 % 2)))
+    (omega arith, refl)
+    (omega arith, refl)
+    (omega arith, refl)
+    (omega arith, refl)
+    (omega arith, refl)
+    (omega arith, refl)
+    map
+    (λ none. let some : 2 + ones map ≡ 0 = sym (mapLength-known map known) ∙ none in omega arith)
+
+-- "an unknown map still has 0"
+pub map-none : (map : ℕ) → isKnown map ≡ false → mapLength map ≡ 0
+map-none = mapLength-none
+
 -- the six maps in document 02's numbers, and their lengths
 pub map-lengths : map mapLength (0x29 ∷ 0x27 ∷ 0x3F ∷ 0x39 ∷ 0x3B ∷ 0x30 ∷ []) ≡ 5 ∷ 6 ∷ 8 ∷ 6 ∷ 7 ∷ 4 ∷ []
-unfolding mapLength mapLengths
+unfolding mapLength isKnown ones
 map-lengths = refl
 
 -- "high byte first"

@@ -4,7 +4,8 @@
 //     Message, Vote                  the messages of the protocol; the vote report of a 1b
 //     MAP_1A ..                      the six bit maps
 //     INS ..                         where a message's fields stand
-//     SLOT_SIZE, map_length          the bytes of a slot; the length that a bit map stands for
+//     SLOT_SIZE                      the bytes of a slot
+//     is_known, map_length           whether a byte is one of the six maps; the length that it stands for
 //     is_value, in_range             the ranges of the fields, and refusal 17
 //     Read, Written                  the answers of the reader and of the writer, which are the crate `codec`
 //     byte_at                        a byte, or 0 past the end
@@ -16,7 +17,7 @@ ghost use mathlib.Core.Path.{_≡_};
 ghost use Prim.Native.Nat.{_+_, _*_, _/_, _%_};
 ghost use lib.ListN.{getD};
 ghost use Rattle.message.specs.Plan.{isPlan};
-ghost use Rattle.message.specs.Form.{isValue, isVote, isInRange, slotOf, mapLength};
+ghost use Rattle.message.specs.Form.{isValue, isVote, isInRange, slotOf, isKnown, mapLength};
 
 // The plan of an order: how many resource managers (document 01: weights), acceptors and leaders it has, and its number (document 02, Paper 1).
 pub struct Plan {
@@ -110,83 +111,26 @@ pub const VAL_DECISION: usize = 1;
 // The bytes of a slot, and of the writer's answer: the longest message fits.
 pub const SLOT_SIZE: usize = 8;
 
-// The length of the message that a bit map begins, 0 for an unknown map: document 01's constant table, of 64 entries since a map has six bits.
-const MAP_LENGTHS: [u8; 64] = [
-    0,
-    0,
-    0,
-    0,
-    0,
-    0,
-    0,
-    0,
-    0,
-    0,
-    0,
-    0,
-    0,
-    0,
-    0,
-    0,
-    0,
-    0,
-    0,
-    0,
-    0,
-    0,
-    0,
-    0,
-    0,
-    0,
-    0,
-    0,
-    0,
-    0,
-    0,
-    0,
-    0,
-    0,
-    0,
-    0,
-    0,
-    0,
-    0,
-    6,
-    0,
-    5,
-    0,
-    0,
-    0,
-    0,
-    0,
-    0,
-    4,
-    0,
-    0,
-    0,
-    0,
-    0,
-    0,
-    0,
-    0,
-    6,
-    0,
-    7,
-    0,
-    0,
-    0,
-    8,
-];
+// Whether a first byte is one of the six maps.
+pub fn is_known(map: u8) -> bool
+    ensures { λ r. ⌜ r ≡ isKnown map ⌝ }
+{
+    (map == MAP_1A)
+        | (map == MAP_1B)
+        | (map == MAP_1B_VOTE)
+        | (map == MAP_2A)
+        | (map == MAP_2B)
+        | (map == MAP_DECISION)
+}
 
-// The length that a first byte stands for: the table's entry, or 0 past its end.
+// The length that a first byte stands for: 2 and the count of its ones, or 0 for an unknown map (document 02, Paper 3).
 pub fn map_length(map: u8) -> usize
     ensures { λ r. ⌜ r ≡ mapLength map ⌝ }
 {
-    let index = map as usize;
-    if 64 <= index {
+    if !is_known(map) {
         return 0;
     }
-    MAP_LENGTHS[index] as usize
+    2 + u32::count_ones(map as u32) as usize
 }
 
 // Whether a byte is a value: 1 prepared or 2 aborted.

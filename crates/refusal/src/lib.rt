@@ -32,7 +32,7 @@ use message::VAL_2B;
 use message::VAL_DECISION;
 
 // The refusal of a slice whose map is a 1a's, by all but its order number: 16 (another length than the map's), 17 (a field out of range), or
-// 0. Likewise below for the other maps. Where the map is known, so is the table's entry, and the fields are read straight from their places.
+// 0. Likewise below for the other maps. Where the map is known, so is its length, and the fields are read straight from their places.
 fn refusal_1a(plan: Plan, map: u8, bytes: &[u8]) -> u8
     requires { ⌜ (map ≡ map1a) × Begins plan map1a (now bytes) ⌝ }
     ensures { λ r. ⌜ r ≡ shapeNumber plan (now (bytes .entry)) ⌝ }

@@ -314,8 +314,8 @@ fn write_by_hand(plan: reference::Plan, message: reference::Message) -> (u8, Mes
 }
 
 #[inline(never)]
-fn length_by_hand(map: u8) -> u8 {
-    reference::LENGTHS.get(usize::from(map)).copied().unwrap_or(0)
+fn length_by_hand(map: u8) -> usize {
+    reference::length(map)
 }
 
 #[inline(never)]

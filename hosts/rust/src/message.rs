@@ -154,7 +154,8 @@ impl Fields {
         let Fields { map, ins, acc, mbal, bal, val } = self;
         match ffi::write(plan, [map, ins, acc, mbal, bal, val]) {
             [0, number, ..] => Err(refused(number.into())),
-            slot => match ffi::length(slot[0]) {
+            // The slot begins with this map.
+            slot => match ffi::length(map) {
                 len @ 1..=8 => Ok(Written { slot, len: len as u8 }),
                 _ => outside(),
             },

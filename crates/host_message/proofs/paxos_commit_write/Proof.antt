@@ -1,77 +1,123 @@
--- `host_message::paxos_commit_write` meets its contract: each `return` is one case of the definition. Assumes nothing.
-use Prim.Native.Nat.{ℕ, _*_}
-use mathlib.Core.Path.{_∙_, sym, ap}
-use borrow.Author.Needs.{needs}
-use Rattle.message.specs.declared.Read.{Read}
-use Rattle.message.specs.Outcome.{numberOf}
-use Rattle.message.specs.Codec.{readOutcome}
+-- `host_message::paxos_commit_write` meets its contract: each branch knows the map, the last of each group by what it is not. Assumes nothing.
+use mathlib.Core.Bool.{true}
+use mathlib.Core.Path.{_≡_, _∙_, refl}
+use Rattle.message.specs.Plan.{isPlan}
+use Rattle.message.specs.Form.{isKnown}
+use Rattle.message.specs.Form.Laws.{known-decision, known-vote}
 use Rattle.message.proofs.Guards.{passed, failed}
-use Rattle.host_message.specs.Code.{writtenCode}
-use Rattle.host_message.specs.Code.Laws.{hostWrite-plan, hostWrite-map, hostWrite-message}
+use Rattle.host_code.specs.Code.{planOf}
+use Rattle.host_message.specs.Code.{messageWith}
+use Rattle.host_message.specs.Code.Laws.{hostWrite-plan, hostWrite-unknown, hostWrite-message}
 use Rattle.host_message.proofs.paxos_commit_write.Statement.{statement}
 use Rattle.host_message.proofs.paxos_commit_write.Tie as tie
+
+-- past the tests of the plan and the map
+in-range : (c : tie.Else1) → isPlan (planOf (c .before .before .args .rms) (c .before .before .args .acceptors) (c .before .before .args .leaders) (c .before .before .args .order)) ≡ true
+in-range c = passed (c .before .is-plan .ensures) (c .if1 .left)
+
+known : (c : tie.Else2) → isKnown (c .before .before .before .before .args .map) ≡ true
+known c = passed (c .before .is-known .ensures) (c .if2 .left)
 
 is-plan-requires : tie.Need-is-plan-requires
 is-plan-requires c κs = tt
 
+refusal-code-requires : tie.Need-refusal-code-requires
+refusal-code-requires c κs = tt
+
 returns : tie.Need-returns
-returns c = hostWrite-plan _ _ _ _ _ _ _ (failed (c .before .is-plan .ensures) (c .if1 .taken))
+returns c = let at-plan = c .before in c .refusal-code .ensures ∙ hostWrite-plan _ _ _ _ _ _ _ (failed (at-plan .before .is-plan .ensures) (at-plan .if1 .taken))
 
-message-of-requires : tie.Need-message-of-requires
-message-of-requires c κs = tt
+is-known-requires : tie.Need-is-known-requires
+is-known-requires c κs = tt
 
-enum-known-answer : tie.Need-enum-known-answer
-enum-known-answer c = search needs
-
-enum-told : tie.Need-enum-told
-enum-told c = search needs
-
-read-refusal-requires : tie.Need-read-refusal-requires
-read-refusal-requires c κs = tt
-
-cast-result : tie.Need-cast-result
-cast-result c = search needs
-
-mul-result : tie.Need-mul-result
-mul-result c = search needs
+refusal-code-requires-2 : tie.Need-refusal-code-requires-2
+refusal-code-requires-2 c κs = tt
 
 returns-2 : tie.Need-returns-2
 returns-2 c =
-    let at-told = c .before in
-    let at-message = at-told .before .before in
-    let at-plan = at-message .before in
-    let told = at-told .enum-told .given .1 in
-    ap (λ (n : ℕ). 256 * n) (c .read-refusal .ensures ∙ ap (λ (r : Read). numberOf (readOutcome r)) told)
-    ∙ hostWrite-map _ _ _ _ _ _ _ (passed (at-plan .before .is-plan .ensures) (at-plan .if1 .left)) _ (sym (ap readOutcome told) ∙ at-message .message-of .ensures)
+    let at-map = c .before in
+    let at-known = at-map .before in
+    c .refusal-code2 .ensures ∙ hostWrite-unknown _ _ _ _ _ _ _ (in-range (at-known .before)) (failed (at-known .is-known .ensures) (at-map .if2 .taken))
 
-write-message-requires : tie.Need-write-message-requires
-write-message-requires c κs = tt
-
-written-code-requires : tie.Need-written-code-requires
-written-code-requires c κs = tt
+write-code-requires : tie.Need-write-code-requires
+write-code-requires c κs = tt
 
 returns-3 : tie.Need-returns-3
+unfolding messageWith
 returns-3 c =
-    let at-answer = c .before .before .before in
-    let at-message = at-answer .before .before in
-    let at-plan = at-message .before in
-    c .written-code .ensures ∙ ap writtenCode (c .before .write-message .ensures)
-    ∙ hostWrite-message _ _ _ _ _ _ _ (passed (at-plan .before .is-plan .ensures) (at-plan .if1 .left)) _
-    (sym (ap readOutcome (at-answer .answer .given .1)) ∙ at-message .message-of .ensures)
+    let at-known = c .before .before .before in
+    c .write-code .ensures ∙ hostWrite-message _ _ _ _ _ _ _ (in-range (at-known .before .before)) (known at-known) _ (rw (c .before .if4 .taken) refl)
+
+write-code-requires-2 : tie.Need-write-code-requires-2
+write-code-requires-2 c κs = tt
+
+returns-4 : tie.Need-returns-4
+unfolding messageWith
+returns-4 c =
+    let at-known = c .before .before .before .before in
+    c .write-code2 .ensures ∙ hostWrite-message _ _ _ _ _ _ _ (in-range (at-known .before .before)) (known at-known) _ (rw (c .before .if5 .taken) refl)
+
+write-code-requires-3 : tie.Need-write-code-requires-3
+write-code-requires-3 c κs = tt
+
+returns-5 : tie.Need-returns-5
+unfolding messageWith
+returns-5 c =
+    let at-1b = c .before in
+    let at-1a = at-1b .before in
+    let at-low = at-1a .before in
+    let at-known = at-low .before in
+    c .write-code3 .ensures ∙ hostWrite-message _ _ _ _ _ _ _ (in-range (at-known .before .before)) (known at-known) _ (rw (known-decision _ (known at-known) (at-low .if3 .taken) (at-1a .if4 .left) (at-1b .if5 .left)) refl)
+
+write-code-requires-4 : tie.Need-write-code-requires-4
+write-code-requires-4 c κs = tt
+
+returns-6 : tie.Need-returns-6
+unfolding messageWith
+returns-6 c =
+    let at-known = c .before .before .before in
+    c .write-code4 .ensures ∙ hostWrite-message _ _ _ _ _ _ _ (in-range (at-known .before .before)) (known at-known) _ (rw (c .before .if6 .taken) refl)
+
+write-code-requires-5 : tie.Need-write-code-requires-5
+write-code-requires-5 c κs = tt
+
+returns-7 : tie.Need-returns-7
+unfolding messageWith
+returns-7 c =
+    let at-known = c .before .before .before .before in
+    c .write-code5 .ensures ∙ hostWrite-message _ _ _ _ _ _ _ (in-range (at-known .before .before)) (known at-known) _ (rw (c .before .if7 .taken) refl)
+
+write-code-requires-6 : tie.Need-write-code-requires-6
+write-code-requires-6 c κs = tt
+
+returns-8 : tie.Need-returns-8
+unfolding messageWith
+returns-8 c =
+    let at-2b = c .before in
+    let at-2a = at-2b .before in
+    let at-high = at-2a .before in
+    let at-known = at-high .before in
+    c .write-code6 .ensures ∙ hostWrite-message _ _ _ _ _ _ _ (in-range (at-known .before .before)) (known at-known) _ (rw (known-vote _ (known at-known) (at-high .if3 .left) (at-2a .if6 .left) (at-2b .if7 .left)) refl)
 
 pub paxos-commit-write-spec : {M : Type 1} → statement M
 paxos-commit-write-spec =
     tie.close
     (tie.spec
     is-plan-requires
+    refusal-code-requires
     returns
-    message-of-requires
-    enum-known-answer
-    enum-told
-    read-refusal-requires
-    cast-result
-    mul-result
+    is-known-requires
+    refusal-code-requires-2
     returns-2
-    write-message-requires
-    written-code-requires
-    returns-3)
+    write-code-requires
+    returns-3
+    write-code-requires-2
+    returns-4
+    write-code-requires-3
+    returns-5
+    write-code-requires-4
+    returns-6
+    write-code-requires-5
+    returns-7
+    write-code-requires-6
+    returns-8)

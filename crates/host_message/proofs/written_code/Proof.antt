@@ -6,14 +6,11 @@ use Rattle.host_message.proofs.Writing.{eight-packed}
 use Rattle.host_message.proofs.written_code.Statement.{statement}
 use Rattle.host_message.proofs.written_code.Tie as tie
 
-cast-result : tie.Need-cast-result
-cast-result c = search needs
-
-mul-result : tie.Need-mul-result
-mul-result c = search needs
+refusal-code-requires : tie.Need-refusal-code-requires
+refusal-code-requires c κs = tt
 
 returns : tie.Need-returns
-returns c = written-refused _ (c .before .if1 .taken)
+returns c = c .refusal-code .ensures ∙ written-refused _ (c .before .if1 .taken)
 
 array-read-pack : tie.Need-array-read-pack
 array-read-pack c = search needs
@@ -49,8 +46,7 @@ pub written-code-spec : {M : Type 1} → statement M
 written-code-spec =
     tie.close
     (tie.spec
-    cast-result
-    mul-result
+    refusal-code-requires
     returns
     array-read-pack
     array-read-pack-2

@@ -2,26 +2,26 @@
 --     messageCases          the six forms of a message, for a rule that is computed at each
 --     messageLength-length, -bounds, mapLength-bytesOf     the length of a form, and that its map stands for it
 --     length-slotOf, first-slotOf, take-slotOf, drop-slotOf, slotOf-parts, mapLength-slotOf, slotOf-used     a form followed by zeros
---     mapLength-bound       no message is longer than a slot
 --     mapLength-zero, first-bytesOf     no map is 0
---     knownMap              a rule that holds of the six known maps holds of every map whose length is not 0
---     mapLength-least       such a length is four at least
---     mapLength-unknown     any other map has no length
+--     mapLength-known, -none, known-some, unknown-length     a known map's length, and that any other has none
+--     isKnown-other, mapLength-unknown     any other than the six is unknown
+--     knownMap, known-decision, known-vote     a rule that holds of the six known maps holds of every map whose length is not 0
+--     mapLength-bound, -least     no message is longer than a slot, and none shorter than four bytes
 --     decode-bytesOf, decode-slotOf        decoding the form of a message, or its slot, gives the message
 --     bytesOf-decode        bytes with a known map, its length and the order number are the form of what they decode to
 --     hasOrder-bytes, order-compared     what is compared of the order number, byte by byte and as one number
 --     hasOrder-bytesOf, -other, bytesOf-order     a form has its plan's order number and no other; no form is of two orders
--- Laws/Table.antt has the rule of a constant table. Assumes nothing.
-pub mod Table
+-- Assumes nothing.
 use Prim.Native.Nat.{ℕ, zero, suc, _+_, _*_, _-_, _/_, _%_, _≤_, _<_, zero-le}
-use mathlib.Core.Bool.{Bool, true, false, _&&_, _||_, false≢true}
+use mathlib.Core.Bool.{Bool, true, false, _&&_, false≢true}
 use mathlib.Core.List.{List, [], _∷_, _++_}
 use mathlib.Core.Path.{_≡_, refl, sym, _∙_, ap, ap₂, subst}
-use native.Mathlib.Decide.{decLt, ℕ-discrete}
+use native.Mathlib.Decide.{ℕ-discrete}
 use native.Mathlib.Omega.{arith}
-use lib.Dec.{T, eqb, leb, eqb→eq, leb→le, lit≤}
+use lib.Count.{ones}
+use lib.Dec.{eqb, lit≤}
 use lib.ListN.{length, getD, take, drop, replicate, length-append, length-replicate, drop-of-length-le, take-append-drop}
-use lib.ListN.{List·getD-eq-default, List·getD-append}
+use lib.ListN.{List·getD-append}
 use lib.Seq.{drop-cons, take-append-seam, drop-append-seam}
 use borrow.Author.Tests.{eq-eqb, ne-eqb, eqb-true, eqb-false}
 use Rattle.message.specs.Outcome.Laws.{both}
@@ -30,8 +30,7 @@ use Rattle.message.specs.declared.Vote.the-variants.{None, Cast}
 use Rattle.message.specs.declared.Message.{Message}
 use Rattle.message.specs.declared.Message.the-variants.{Phase1a, Phase1b, Phase2a, Phase2b, Decision}
 use Rattle.message.specs.Form.{map1a, map1b, map1bVote, map2a, map2b, mapDecision}
-use Rattle.message.specs.Form.{bytesOf, bytesOf1b, messageLength, slotSize, slotOf, mapLengths, mapLength, fieldsMessage, decode, hasOrder}
-use Rattle.message.specs.Form.Laws.Table.{every-at}
+use Rattle.message.specs.Form.{bytesOf, bytesOf1b, messageLength, slotSize, slotOf, isKnown, mapLength, fieldsMessage, decode, hasOrder}
 
 -- what is computed for each kind of message, at both kinds of vote
 pub messageCases : (P : Message → Type 0)
@@ -64,7 +63,7 @@ messageLength-bounds p =
     (λ v. (lit≤ tt, lit≤ tt))
 
 pub mapLength-bytesOf : (p : Plan) (m : Message) → mapLength (getD (bytesOf p m) 0 0) ≡ messageLength p m
-unfolding mapLength mapLengths messageLength bytesOf bytesOf1b
+unfolding mapLength isKnown ones messageLength bytesOf bytesOf1b
 mapLength-bytesOf p =
     messageCases _ (λ i b. refl) (λ i a m. refl) (λ i a m b v. refl) (λ i b v. refl) (λ i a b v. refl) (λ v. refl)
 
@@ -96,21 +95,9 @@ slotOf-parts p m s front rest =
 pub mapLength-slotOf : (p : Plan) (m : Message) → mapLength (getD (slotOf p m) 0 0) ≡ messageLength p m
 mapLength-slotOf p m = ap mapLength (first-slotOf p m) ∙ mapLength-bytesOf p m
 
--- no message is longer than a slot
-fitsRule : ℕ → ℕ → Bool
-fitsRule map len = leb len slotSize
-
-pub mapLength-bound : (map : ℕ) → mapLength map ≤ slotSize
-unfolding mapLength mapLengths fitsRule
-mapLength-bound map =
-    elim (decLt map 64) [
-      | yes h ↦ leb→le _ _ (every-at fitsRule mapLengths tt map h)
-      | no h ↦ rw (List·getD-eq-default mapLengths 0 {n = map} (omega arith)) zero-le
-    ]
-
 -- no map is 0
 pub mapLength-zero : mapLength 0 ≡ 0
-unfolding mapLength mapLengths
+unfolding mapLength isKnown ones
 mapLength-zero = refl
 
 pub first-bytesOf : (p : Plan) (m : Message) → getD (bytesOf p m) 0 0 ≡ 0 → ⊥
@@ -127,46 +114,97 @@ first-bytesOf p =
 pub slotOf-used : (p : Plan) (m : Message) → getD (slotOf p m) 0 0 ≡ 0 → ⊥
 slotOf-used p m e = first-bytesOf p m (sym (first-slotOf p m) ∙ e)
 
--- an entry is 0 unless its place is a known map
-unknownRule : ℕ → ℕ → Bool
-unknownRule map len = eqb len 0 || (eqb map map1a || (eqb map map1b || (eqb map map1bVote || (eqb map map2a || (eqb map map2b || eqb map mapDecision)))))
+-- by whether the map is known
+module _ (map : ℕ) where
+  pub mapLength-known : isKnown map ≡ true → mapLength map ≡ 2 + ones map
+  unfolding mapLength
+  mapLength-known known = rw known
 
--- a rule that holds of the six known maps holds of every map with a length
-pub knownMap : (P : ℕ → Type 0) → P map1a → P map1b → P map1bVote → P map2a → P map2b → P mapDecision → (map : ℕ) → (mapLength map ≡ 0 → ⊥) → P map
-unfolding mapLength mapLengths unknownRule
-knownMap P of1a of1b of1bVote of2a of2b ofDecision map known = under (decLt map 64)
-  where
-    or : (k : ℕ) → P k → (b : Bool) → T (eqb map k || b) → (T b → P map) → P map
-    or k pk b t rest = elim (ℕ-discrete map k) [ yes e ↦ subst P (sym e) pk | no n ↦ rest (rw (ne-eqb map k n) at t) ]
+  pub mapLength-none : isKnown map ≡ false → mapLength map ≡ 0
+  unfolding mapLength
+  mapLength-none unknown = rw unknown
 
-    entry : map < 64 → P map
-    entry h =
-        let t = every-at unknownRule mapLengths tt map h in
-        or map1a of1a _ (rw (ne-eqb _ _ known) at t)
-        (λ t. or map1b of1b _ t
-        (λ t. or map1bVote of1bVote _ t
-        (λ t. or map2a of2a _ t
-        (λ t. or map2b of2b _ t
-        (λ t. subst P (sym (eqb→eq map mapDecision t)) ofDecision)))))
+  pub known-some : isKnown map ≡ true → mapLength map ≡ 0 → ⊥
+  known-some known none = let some : 2 + ones map ≡ 0 = sym (mapLength-known known) ∙ none in omega arith
 
-    under : Dec (map < 64) → P map
-    under (yes h) = entry h
-    under (no h) = absurd (known (List·getD-eq-default mapLengths 0 {n = map} (omega arith)))
+  pub unknown-length : mapLength map ≡ 0 → isKnown map ≡ false
+  unknown-length none = go (isKnown map) refl
+    where
+      go : (b : Bool) → isKnown map ≡ b → b ≡ false
+      go true known = absurd (known-some known none)
+      go false unknown = refl
 
--- and that is four at least
-pub mapLength-least : (map : ℕ) → (mapLength map ≡ 0 → ⊥) → 4 ≤ mapLength map
-unfolding mapLength mapLengths
-mapLength-least = knownMap (λ (map : ℕ). 4 ≤ mapLength map) (lit≤ tt) (lit≤ tt) (lit≤ tt) (lit≤ tt) (lit≤ tt) (lit≤ tt)
+-- any other map than the six is unknown, and has no length
+pub isKnown-other : (map : ℕ)
+    → (map ≡ map1a → ⊥) → (map ≡ map1b → ⊥) → (map ≡ map1bVote → ⊥) → (map ≡ map2a → ⊥) → (map ≡ map2b → ⊥) → (map ≡ mapDecision → ⊥)
+    → isKnown map ≡ false
+unfolding isKnown
+isKnown-other map not1a not1b not1bVote not2a not2b notDecision =
+    rw (
+      ne-eqb map map1a not1a,
+      ne-eqb map map1b not1b,
+      ne-eqb map map1bVote not1bVote,
+      ne-eqb map map2a not2a,
+      ne-eqb map map2b not2b,
+      ne-eqb map mapDecision notDecision,
+    )
 
--- any other map has no length
 pub mapLength-unknown : (map : ℕ)
     → (map ≡ map1a → ⊥) → (map ≡ map1b → ⊥) → (map ≡ map1bVote → ⊥) → (map ≡ map2a → ⊥) → (map ≡ map2b → ⊥) → (map ≡ mapDecision → ⊥)
     → mapLength map ≡ 0
 mapLength-unknown map not1a not1b not1bVote not2a not2b notDecision =
+    mapLength-none map (isKnown-other map not1a not1b not1bVote not2a not2b notDecision)
+
+-- a rule that holds of the six known maps holds of every map with a length
+pub knownMap : (P : ℕ → Type 0) → P map1a → P map1b → P map1bVote → P map2a → P map2b → P mapDecision → (map : ℕ) → (mapLength map ≡ 0 → ⊥) → P map
+knownMap P of1a of1b of1bVote of2a of2b ofDecision map known =
+    at map1a of1a
+    (λ not1a. at map1b of1b
+    (λ not1b. at map1bVote of1bVote
+    (λ not1bVote. at map2a of2a
+    (λ not2a. at map2b of2b
+    (λ not2b. at mapDecision ofDecision
+    (λ notDecision. absurd (known (mapLength-unknown map not1a not1b not1bVote not2a not2b notDecision))))))))
+  where
+    at : (k : ℕ) → P k → ((map ≡ k → ⊥) → P map) → P map
+    at k pk rest = elim (ℕ-discrete map k) [ yes e ↦ subst P (sym e) pk | no n ↦ rest n ]
+
+-- the last map of each group, where a branch has tested the others
+pub known-decision : (map : ℕ) → isKnown map ≡ true → map < map2a → (map ≡ map1a → ⊥) → (map ≡ map1b → ⊥) → map ≡ mapDecision
+known-decision map known low not1a not1b =
+    knownMap (λ (k : ℕ). k < map2a → (k ≡ map1a → ⊥) → (k ≡ map1b → ⊥) → k ≡ mapDecision)
+    (λ l a b. absurd (a refl))
+    (λ l a b. absurd (b refl))
+    (λ l a b. omega arith)
+    (λ l a b. omega arith)
+    (λ l a b. omega arith)
+    (λ l a b. refl)
+    map (known-some map known) low not1a not1b
+
+pub known-vote : (map : ℕ) → isKnown map ≡ true → map2a ≤ map → (map ≡ map2a → ⊥) → (map ≡ map2b → ⊥) → map ≡ map1bVote
+known-vote map known high not2a not2b =
+    knownMap (λ (k : ℕ). map2a ≤ k → (k ≡ map2a → ⊥) → (k ≡ map2b → ⊥) → k ≡ map1bVote)
+    (λ h a b. omega arith)
+    (λ h a b. omega arith)
+    (λ h a b. refl)
+    (λ h a b. absurd (a refl))
+    (λ h a b. absurd (b refl))
+    (λ h a b. omega arith)
+    map (known-some map known) high not2a not2b
+
+-- no message is longer than a slot
+pub mapLength-bound : (map : ℕ) → mapLength map ≤ slotSize
+unfolding mapLength isKnown ones
+mapLength-bound map =
     elim (ℕ-discrete (mapLength map) 0) [
-      | yes e ↦ e
-      | no known ↦ absurd (knownMap (λ (k : ℕ). map ≡ k → ⊥) not1a not1b not1bVote not2a not2b notDecision map known refl)
+      | yes e ↦ rw e zero-le
+      | no known ↦ knownMap (λ (k : ℕ). mapLength k ≤ slotSize) (lit≤ tt) (lit≤ tt) (lit≤ tt) (lit≤ tt) (lit≤ tt) (lit≤ tt) map known
     ]
+
+-- and a known one is four at least
+pub mapLength-least : (map : ℕ) → (mapLength map ≡ 0 → ⊥) → 4 ≤ mapLength map
+unfolding mapLength isKnown ones
+mapLength-least = knownMap (λ (map : ℕ). 4 ≤ mapLength map) (lit≤ tt) (lit≤ tt) (lit≤ tt) (lit≤ tt) (lit≤ tt) (lit≤ tt)
 
 pub decode-bytesOf : (p : Plan) (m : Message) → decode (bytesOf p m) ≡ m
 unfolding decode fieldsMessage bytesOf bytesOf1b
@@ -195,7 +233,7 @@ Formed p bytes map = getD bytes 0 0 ≡ map → length bytes ≡ mapLength map �
 
 pub bytesOf-decode : (p : Plan) (bytes : List ℕ) → (mapLength (getD bytes 0 0) ≡ 0 → ⊥) → length bytes ≡ mapLength (getD bytes 0 0)
     → hasOrder p (mapLength (getD bytes 0 0)) bytes ≡ true → bytesOf p (decode bytes) ≡ bytes
-unfolding decode Formed bytesOf bytesOf1b fieldsMessage mapLength mapLengths firsts hasOrder
+unfolding decode Formed bytesOf bytesOf1b fieldsMessage mapLength isKnown ones firsts hasOrder
 bytesOf-decode p bytes known n order =
     knownMap (Formed p bytes)
     (λ h n o. let b = ends 3 o in rw (h, b .0, b .1) at (sym (drop-firsts 5 0 bytes n)))

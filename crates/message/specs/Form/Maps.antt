@@ -14,6 +14,7 @@ use mathlib.Core.Bool.{true, _&&_}
 use mathlib.Core.List.{List, [], _∷_}
 use mathlib.Core.Path.{_≡_, refl, _∙_, ap}
 use native.Mathlib.Decide.{ℕ-discrete}
+use lib.Count.{ones}
 use lib.Dec.{ltb, leb}
 use lib.ListN.{getD}
 use borrow.Author.Tests.{ne-eqb}
@@ -22,30 +23,30 @@ use Rattle.message.specs.declared.Vote.the-variants.{None, Cast}
 use Rattle.message.specs.declared.Message.{Message}
 use Rattle.message.specs.declared.Message.the-variants.{Phase1a, Phase1b, Phase2a, Phase2b, Decision}
 use Rattle.message.specs.Form.{map1a, map1b, map1bVote, map2a, map2b, mapDecision}
-use Rattle.message.specs.Form.{isValue, isVote, isInRange, bytesOf1b, bytesOf, messageLength, slotOf, mapLengths, mapLength, fieldsMessage, decode}
+use Rattle.message.specs.Form.{isValue, isVote, isInRange, bytesOf1b, bytesOf, messageLength, slotOf, isKnown, mapLength, fieldsMessage, decode}
 
 pub length-1a : mapLength map1a ≡ 5
-unfolding mapLength mapLengths
+unfolding mapLength isKnown ones
 length-1a = refl
 
 pub length-1b : mapLength map1b ≡ 6
-unfolding mapLength mapLengths
+unfolding mapLength isKnown ones
 length-1b = refl
 
 pub length-1b-vote : mapLength map1bVote ≡ 8
-unfolding mapLength mapLengths
+unfolding mapLength isKnown ones
 length-1b-vote = refl
 
 pub length-2a : mapLength map2a ≡ 6
-unfolding mapLength mapLengths
+unfolding mapLength isKnown ones
 length-2a = refl
 
 pub length-2b : mapLength map2b ≡ 7
-unfolding mapLength mapLengths
+unfolding mapLength isKnown ones
 length-2b = refl
 
 pub length-decision : mapLength mapDecision ≡ 4
-unfolding mapLength mapLengths
+unfolding mapLength isKnown ones
 length-decision = refl
 
 -- none of the five maps of a message with an instance

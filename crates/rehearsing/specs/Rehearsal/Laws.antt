@@ -19,7 +19,8 @@ use borrow.Author.Tests.{eq-eqb, leb-true}
 use Rattle.message.specs.declared.Plan.{Plan}
 use Rattle.message.specs.Outcome.{Outcome, accepted, refused, andThen, refuseIf, numberOf}
 use Rattle.message.specs.Outcome.Laws.{both}
-use Rattle.message.specs.Form.{mapLengths, mapLength}
+use Rattle.message.specs.Form.{mapLength}
+use Rattle.message.specs.Form.Laws.{mapLength-zero}
 use Rattle.message.specs.Plan.{isPlan}
 use Rattle.message.specs.Plan.Laws.{plan-bounds}
 use Rattle.message.specs.Rows.{Rows, end, guard, here, below, Applies, Lowest}
@@ -100,9 +101,8 @@ zero-part (suc k) zero = refl
 zero-part (suc k) (suc n) = zero-part k n
 
 zero-first : (n : ℕ) → mapLength (getD (replicate n 0) 0 0) ≡ 0
-unfolding mapLength mapLengths
-zero-first zero = refl
-zero-first (suc n) = refl
+zero-first zero = mapLength-zero
+zero-first (suc n) = mapLength-zero
 
 zero-table : (p : Plan) (n : ℕ) → isTable p (replicate n 0) ≡ true
 zero-table p n = isTable-first p (replicate n 0) (zero-first n) ∙ zero-part (length (replicate n 0) / slotSize * slotSize) n

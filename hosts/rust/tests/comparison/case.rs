@@ -156,7 +156,7 @@ impl Engine for Linked {
                 let fields = Fields { map: *map, ins: *ins, acc: *acc, mbal: *mbal, bal: *bal, val: *val };
                 match fields.write(plan) {
                     Ok(written) => {
-                        assert_eq!(written.len(), usize::from(reference::LENGTHS[usize::from(written[0])]));
+                        assert_eq!(written.len(), reference::length(written[0]));
                         Code::from_le_bytes(written.slot())
                     }
                     Err(refusal) => 256 * Code::from(refusal.number()),
@@ -265,7 +265,7 @@ impl Engine for Reference {
                 match (reference::write(plan, asked), message) {
                     ((0, _, _), None) => 256 * 15,
                     ((0, slot, len), Some(_)) => {
-                        assert_eq!(len, usize::from(reference::LENGTHS[usize::from(slot[0])]));
+                        assert_eq!(len, reference::length(slot[0]));
                         Code::from_le_bytes(slot)
                     }
                     ((number, slot, len), _) => {

@@ -20,17 +20,14 @@ pub(crate) const MAP_2A: u8 = 0x39;
 pub(crate) const MAP_2B: u8 = 0x3B;
 pub(crate) const MAP_DECISION: u8 = 0x30;
 
-/// The length of a message by its map, 0 for an unknown map.
-pub const LENGTHS: [u8; 64] = {
-    let mut lengths = [0; 64];
-    lengths[MAP_1A as usize] = 5;
-    lengths[MAP_1B as usize] = 6;
-    lengths[MAP_1B_VOTE as usize] = 8;
-    lengths[MAP_2A as usize] = 6;
-    lengths[MAP_2B as usize] = 7;
-    lengths[MAP_DECISION as usize] = 4;
-    lengths
-};
+/// The length of a message by its map: 2 and the count of its ones; 0 for an
+/// unknown map.
+pub const fn length(map: u8) -> usize {
+    match map {
+        MAP_1A | MAP_1B | MAP_1B_VOTE | MAP_2A | MAP_2B | MAP_DECISION => 2 + map.count_ones() as usize,
+        _ => 0,
+    }
+}
 
 /// A message; its fields are raw bytes.
 #[derive(Clone, Copy, Debug, PartialEq, Eq)]
@@ -106,9 +103,7 @@ pub fn read(plan: Plan, bytes: &[u8]) -> Result<Message, u8> {
         [MAP_2A, ins, bal, val, _, _] => Message::Phase2a { ins, bal, val },
         [MAP_2B, ins, acc, bal, val, _, _] => Message::Phase2b { ins, acc, bal, val },
         [MAP_DECISION, val, _, _] => Message::Decision { val },
-        [map, ..] if LENGTHS.get(usize::from(map)).is_some_and(|&length| length != 0) => {
-            return Err(refusal::SIZE);
-        }
+        [map, ..] if length(map) != 0 => return Err(refusal::SIZE),
         _ => return Err(refusal::MAP),
     };
     if !message.allowed(plan) {
@@ -131,7 +126,7 @@ pub fn write(plan: Plan, message: Message) -> (u8, Slot, usize) {
         return (refusal::FIELD, [0; 8], 0);
     }
     let slot = message.slot(plan);
-    (0, slot, usize::from(LENGTHS[usize::from(slot[0])]))
+    (0, slot, length(slot[0]))
 }
 
 /// A slot as a number, its first byte the lowest.
@@ -159,7 +154,7 @@ static LEAST_PLAN: Rules = {
     let mut map = 32;
     while map < 64 {
         let (least, span) = (&mut rules.least[place(map)], &mut rules.span[place(map)]);
-        let length = LENGTHS[map as usize] as usize;
+        let length = length(map);
         // The map itself, all eight bits. A byte whose five bits are those
         // of an unknown map is never one more than that.
         least[0] = if length == 0 { map + 1 } else { map };
@@ -191,7 +186,7 @@ impl Rules {
         }
         let [high, low] = plan.order.to_be_bytes();
         for map in [MAP_1A, MAP_1B, MAP_1B_VOTE, MAP_2A, MAP_2B, MAP_DECISION] {
-            let length = usize::from(LENGTHS[usize::from(map)]);
+            let length = length(map);
             rules.least[place(map)][length - 2] = high;
             rules.least[place(map)][length - 1] = low;
         }
@@ -228,8 +223,8 @@ mod tests {
             let plan = Plan { rms: plan.0, acceptors: plan.1, leaders: 1, order: plan.2 };
             let rules = Rules::new(plan);
             for map in 0..=255u8 {
-                let known = LENGTHS.get(usize::from(map)).is_some_and(|&length| length != 0);
-                let length = LENGTHS.get(usize::from(map)).map_or(0, |&length| usize::from(length));
+                let length = length(map);
+                let known = length != 0;
                 // The fields are any of these bytes; what follows them is right, or one byte of it is another.
                 let fields = if known { length - 3 } else { 2 };
                 let mut right = [0; 8];
