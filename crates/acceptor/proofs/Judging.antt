@@ -18,7 +18,7 @@ use Rattle.acceptor.specs.Acceptor.{acceptorJudged, acceptorVerdict, acc
 pub judged-view : (p : Plan) (votes network : List ℕ) → accepted tt ≡ acceptorJudged p votes network → viewBytes p network ≡ viewTable p network
 judged-view p votes network e =
     let s = sound p votes network (sym e) in
-    view-judged p network (s .plan) (s .whole) (s .ordered)
+    view-judged p network (s .whole) (s .ordered)
 
 pub step-sound : (p : Plan) (votes network e : List ℕ) → accepted tt ≡ acceptorJudged p votes network
     → (r : Step) → r ≡ applied p votes network (acceptorVerdict p votes (viewBytes p network) e) → r ≡ acceptorStep p votes network e

@@ -124,8 +124,8 @@ fn receive(plan: Plan, votes: &[u8], network: &[u8], acc: u8, m: Message) -> Ver
     }
 }
 
-// What the event comes to: 1 for the plan, 7 where it is no event of an acceptor, then 8, 9, 12 or 13. The slot's message is taken by the
-// reader. It judges no table: in one that nobody judged the reader may refuse the slot with 15, 17 or 18.
+// What the event comes to: 1 for the plan, 7 where it is no event of an acceptor, then 8, 9, 12 or 13. It judges no table: in
+// one that nobody judged it takes the slot's bytes for a message.
 pub fn evaluate(plan: Plan, votes: &[u8], network: &[u8], event: &[u8]) -> Verdict
     ensures { λ r. ⌜ verdictOutcome r ≡ acceptorVerdict plan (now (votes .entry)) (viewBytes plan (now (network .entry))) (now (event .entry)) ⌝ }
 {
@@ -138,7 +138,7 @@ pub fn evaluate(plan: Plan, votes: &[u8], network: &[u8], event: &[u8]) -> Verdi
     if message::byte_at(event, 0) != 3 {
         return Verdict::Refused(7);
     }
-    let answer = slots::message_at(plan, network, event::slot_number(event));
+    let answer = slots::message_at(network, event::slot_number(event));
     let Read::Message(m) = answer else {
         return Verdict::Refused(codec::read_refusal(answer));
     };

@@ -63,7 +63,9 @@ module _ (p : Plan) (t₀ : Tables) (events : List ℕ) where
           whole = rw (length-set answers i k) (r .whole);
           judged = rw called (record-sound p t e (r .judged));
           tables = rw called (rw split at (r .tables));
-          answered = rw (taken, number, called, append-snoc (take i answers) (numberOf (recordStep p t e .answer)) (numbersOf (rest p events (recordStep p t e .tables) (i + 1)))) (rw split at (r .answered));
+          answered =
+              rw (taken, number, called, append-snoc (take i answers) (numberOf (recordStep p t e .answer)) (numbersOf (rest p events (recordStep p t e .tables) (i + 1))))
+              (rw split at (r .answered));
         }
 
     pub running-end : length answers ≤ i → runAs t answers ≡ finishedRun p t₀ events

@@ -63,8 +63,8 @@ fn fields_message(map: u8, b1: u8, b2: u8, b3: u8, b4: u8, b5: u8) -> Message
     Message::Decision { val: b1 }
 }
 
-// The message that the bytes make where their map is known. It judges nothing.
-fn decode_message(bytes: &[u8]) -> Message
+// The message that the bytes make where their map is known; a byte that is no map is taken for a decision's. It judges nothing.
+pub fn decode_message(bytes: &[u8]) -> Message
     ensures { λ r. ⌜ r ≡ decode (now (bytes .entry)) ⌝ }
 {
     fields_message(

@@ -5,24 +5,23 @@
 --     flag-bound, cell-bound               the flag and the set of an instance of the plan are there
 --     vote-next                            one slot further
 -- Assumes nothing.
-use Prim.Native.Nat.{ℕ, _+_, _*_, _/_, _≤_, _<_}
+use Prim.Native.Nat.{ℕ, _+_, _*_, _≤_, _<_}
 use mathlib.Core.Bool.{Bool, true, false, _&&_, cond, and-false}
 use mathlib.Core.List.{List}
 use mathlib.Core.Path.{_≡_, refl, sym, _∙_, ap, ap₂}
 use native.Mathlib.Omega.{arith}
 use lib.Dec.{ltb, eqb}
-use lib.ListN.{length, getD, set}
+use lib.ListN.{getD, set}
 use borrow.Author.Tests.{lt-ltb, le-ltb, eq-eqb, ne-eqb, eqb-true}
 use Rattle.message.specs.declared.Plan.{Plan}
 use Rattle.message.specs.Form.{map2b}
 use Rattle.message.specs.Plan.{isPlan}
 use Rattle.message.specs.Plan.Laws.{plan-bounds}
 use Rattle.slots.specs.Table.{slotSize}
-use Rattle.slots.specs.Table.Scan.{peekTable}
-use Rattle.slots.specs.View.Bytes.{leadingMessages}
+use Rattle.slots.specs.Table.Scan.{edge, peekMessages}
 use Rattle.quorum.specs.Quorum.{isMajority}
 use Rattle.quorum.specs.Mask.{insertBit, join, ones}
-use Rattle.inbox.specs.Inbox.Slots.{messageAt, slotCases, ahead, ahead-used}
+use Rattle.inbox.specs.Inbox.Slots.{messageAt, slotCases, ahead, ahead-next}
 use Rattle.inbox.specs.Inbox.Votes.{Tally, tally, joined, tallied, voteStep, smallBallot, Counts, counts-next}
 
 same-pair : (a b c d x y : ℕ) → (x ≡ 256 * a + b) × (b < 256) → (y ≡ 256 * c + d) × (d < 256) → x ≡ y → (a ≡ c) × (b ≡ d)
@@ -113,8 +112,8 @@ module _ (p : Plan) (plan : isPlan p ≡ true) (ins : ℕ) (h : ins < p .rms) wh
   cell-bound bal cell e = omega (arith, plan-bounds p plan .rms-most)
 
 -- one slot further in the inbox
-pub vote-next : (p : Plan) → isPlan p ≡ true → (v : ℕ) (t : List ℕ) (k : ℕ) (s : Tally) → Counts p v (leadingMessages (peekTable t)) s (ahead t k)
-    → k < length t / slotSize → (getD t (k * slotSize) 0 ≡ 0 → ⊥) → ((j : ℕ) → getD t j 0 < 256)
-    → (s′ : Tally) → s′ ≡ voteStep p v s (messageAt t (k * slotSize)) → Counts p v (leadingMessages (peekTable t)) s′ (ahead t (k + 1))
-vote-next p plan v t k s inv h n bytes s′ e =
-    counts-next p v _ plan s _ _ inv _ (ahead-used t k h n) (small-ballot t (k * slotSize) (bytes (k * slotSize + 3))) s′ e
+pub vote-next : (p : Plan) → isPlan p ≡ true → (v : ℕ) (t : List ℕ) (used : ℕ) → used ≡ edge t → (k : ℕ) (s : Tally)
+    → Counts p v (peekMessages t) s (ahead t k) → k < used → ((j : ℕ) → getD t j 0 < 256)
+    → (s′ : Tally) → s′ ≡ voteStep p v s (messageAt t (k * slotSize)) → Counts p v (peekMessages t) s′ (ahead t (k + 1))
+vote-next p plan v t used of-used k s inv h bytes s′ e =
+    counts-next p v _ plan s _ _ inv _ (ahead-next t used of-used k h) (small-ballot t (k * slotSize) (bytes (k * slotSize + 3))) s′ e

@@ -1,4 +1,4 @@
-// Decided, as a leader reads it from its inbox: one pass over the inbox, whether it was judged or not.
+// Decided, as a leader reads it from its inbox: one pass over the slots before the edge.
 //
 //     pair_of, set_flag, vote_step       a set of acceptors for each instance and ballot, and a flag for each instance that has a majority
 //     least_flags, gather_votes          the pass, up to where the flags suffice
@@ -11,8 +11,7 @@ ghost use Prim.Native.Nat.{_+_, _*_, _≤_, _<_};
 ghost use lib.ListN.{length, replicate};
 ghost use Rattle.message.specs.Plan.{isPlan};
 ghost use Rattle.slots.specs.Table.{slotSize};
-ghost use Rattle.slots.specs.Table.Scan.{peekTable};
-ghost use Rattle.slots.specs.View.Bytes.{leadingMessages};
+ghost use Rattle.slots.specs.Table.Scan.{edge, peekMessages};
 ghost use Rattle.quorum.specs.Mask.{insertBit};
 ghost use Rattle.inbox.specs.Inbox.{decided, forAll, forSome};
 ghost use Rattle.inbox.specs.Inbox.Slots.{messageAt};
@@ -76,21 +75,23 @@ fn least_flags(some: bool, all: u32) -> u32
     if some { 1 } else { all }
 }
 
-// One pass that ends as soon as the flags suffice: they are never cleared.
-fn gather_votes(plan: Plan, inbox: &[u8], value: u8, some: bool, masks: &mut [u8; 4096]) -> bool
-    requires { ⌜ (isPlan plan ≡ true) × (now masks ≡ replicate 4096 0) ⌝ }
-    ensures { λ r. ⌜ r ≡ quantify some (plan .rms) (λ i. decided plan (leadingMessages (peekTable (now (inbox .entry)))) i value) ⌝ }
+// One pass over the used slots, which ends as soon as the flags suffice: they are never cleared.
+fn gather_votes(
+    plan: Plan,
+    inbox: &[u8],
+    used: usize,
+    value: u8,
+    some: bool,
+    masks: &mut [u8; 4096],
+) -> bool
+    requires { ⌜ (isPlan plan ≡ true) × (used ≡ edge (now inbox)) × (now masks ≡ replicate 4096 0) ⌝ }
+    ensures { λ r. ⌜ r ≡ quantify some (plan .rms) (λ i. decided plan (peekMessages (now (inbox .entry))) i value) ⌝ }
 {
-    let count = inbox.len() / SLOT_SIZE;
     let least = least_flags(some, (1u32 << plan.rms) - 1);
     let mut flags: u32 = 0;
     let mut place = 0;
-    while place < count {
-        let at = place * SLOT_SIZE;
-        if inbox[at] == 0 {
-            return least <= flags;
-        }
-        let next = vote_step(plan, inbox, at, value, masks, flags);
+    while place < used {
+        let next = vote_step(plan, inbox, place * SLOT_SIZE, value, masks, flags);
         if next != flags {
             if least <= next {
                 return true;
@@ -105,22 +106,19 @@ fn gather_votes(plan: Plan, inbox: &[u8], value: u8, some: bool, masks: &mut [u8
 // Whether Decided(i, value) for some instance of the plan, or for all. Without a message nothing is decided, and no set is made.
 fn is_decided(plan: Plan, inbox: &[u8], value: u8, some: bool) -> bool
     requires { ⌜ isPlan plan ≡ true ⌝ }
-    ensures { λ r. ⌜ r ≡ quantify some (plan .rms) (λ i. decided plan (leadingMessages (peekTable (now (inbox .entry)))) i value) ⌝ }
+    ensures { λ r. ⌜ r ≡ quantify some (plan .rms) (λ i. decided plan (peekMessages (now (inbox .entry))) i value) ⌝ }
 {
-    let count = inbox.len() / SLOT_SIZE;
-    if count == 0 {
-        return false;
-    }
-    if inbox[0] == 0 {
+    let used = slots::edge(inbox);
+    if used == 0 {
         return false;
     }
     let mut masks = [0u8; 4096];
-    gather_votes(plan, inbox, value, some, &mut masks)
+    gather_votes(plan, inbox, used, value, some, &mut masks)
 }
 
 // Whether Decided(i, value) for all instances of the plan, in one pass.
 pub fn is_decided_all(plan: Plan, inbox: &[u8], value: u8) -> bool
-    ensures { λ r. ⌜ r ≡ (isPlan plan && forAll (plan .rms) (λ i. decided plan (leadingMessages (peekTable (now (inbox .entry)))) i value)) ⌝ }
+    ensures { λ r. ⌜ r ≡ (isPlan plan && forAll (plan .rms) (λ i. decided plan (peekMessages (now (inbox .entry))) i value)) ⌝ }
 {
     if !message::is_plan(plan) {
         return false;
@@ -130,7 +128,7 @@ pub fn is_decided_all(plan: Plan, inbox: &[u8], value: u8) -> bool
 
 // Whether Decided(i, value) for some instance of the plan, in one pass.
 pub fn is_decided_some(plan: Plan, inbox: &[u8], value: u8) -> bool
-    ensures { λ r. ⌜ r ≡ (isPlan plan && forSome (plan .rms) (λ i. decided plan (leadingMessages (peekTable (now (inbox .entry)))) i value)) ⌝ }
+    ensures { λ r. ⌜ r ≡ (isPlan plan && forSome (plan .rms) (λ i. decided plan (peekMessages (now (inbox .entry))) i value)) ⌝ }
 {
     if !message::is_plan(plan) {
         return false;

@@ -1,27 +1,29 @@
 -- Slots that Phase2a passes.
---     passed-word                        a slot whose first word is in use and not sought can be passed
+--     passed-word                        a slot whose first word is not sought can be passed
 --     all-none, -next, -fewer, -join     no slot, one slot further, fewer slots, two runs of slots in a row
---     all-met                            one slot of a block further, by the bits that the words share
+--     all-met                            one slot of a block further, by the answers for its slots put together
 --     gathers-passed                     slots that are passed add nothing to what was gathered
 -- Assumes nothing.
-use Prim.Native.Nat.{ℕ, zero, suc, _+_, _-_, _*_, _/_, _%_, _≤_, _<_}
+use Prim.Native.Nat.{ℕ, zero, suc, _+_, _-_, _*_, _%_, _≤_, _<_}
 use mathlib.Core.Bool.{_&&_, false}
 use mathlib.Core.List.{List}
 use mathlib.Core.Path.{_≡_, _∙_, subst}
 use native.Mathlib.Decide.{ℕ-discrete, decLe}
 use native.Mathlib.Nat.{add-zero, le-trans}
 use native.Mathlib.Omega.{arith}
-use lib.Bits.{bitAnd, and-block, and-mask, and-mod, and-zero-l, and-zero-r}
+use lib.Bits.{bitAnd, bitOr, and-block, and-mask, and-zero-r}
 use lib.Dec.{eqb, lit<}
-use lib.ListN.{length, getD}
+use lib.ListN.{getD}
 use borrow.Author.Tests.{eq-eqb, ne-eqb}
 use Rattle.message.specs.declared.Message.{Message}
 use Rattle.message.specs.Form.{map2a}
 use Rattle.slots.specs.Table.{slotSize}
 use Rattle.slots.specs.Table.Words.{Word, WordFrom}
 use Rattle.slots.specs.Table.Words.Laws.{below-next}
+use Rattle.slots.specs.Table.Scan.{edge}
+use Rattle.slots.proofs.Zeros.{or-none}
 use Rattle.inbox.specs.declared.Gathered.{Gathered}
-use Rattle.inbox.specs.Inbox.Slots.{messageAt, ahead, ahead-used}
+use Rattle.inbox.specs.Inbox.Slots.{messageAt, ahead, ahead-next}
 use Rattle.inbox.specs.Inbox.Reports.{reportStep, Gathers, gathers-next}
 use Rattle.inbox.specs.Inbox.Blocks.{bit1b, Passed, AllPassed}
 use Rattle.inbox.proofs.Reporting.{skip-other}
@@ -48,17 +50,12 @@ module _ {b0 b1 b2 b3 w : ℕ} (x : Word b0 b1 b2 b3 w) where
 
 -- `w` is the slot's first word; `v` and `u` are what is sought
 pub passed-word : (i b : ℕ) (t : List ℕ) (k w v u : ℕ) → WordFrom t (k * slotSize) w → Word bit1b i 0 b v → Word map2a i b 0 u
-    → (bitAnd w 0xFF00FF04 ≡ v → ⊥) → (w % 0x1000000 ≡ u → ⊥) → (w % 0x100 ≡ 0 → ⊥) → Passed i b t k
-passed-word i b t k w v u reads of-1b of-2a no-1b no-2a some =
+    → (bitAnd w 0xFF00FF04 ≡ v → ⊥) → (w % 0x1000000 ≡ u → ⊥) → Passed i b t k
+passed-word i b t k w v u reads of-1b of-2a no-1b no-2a =
     record {
-      used = λ z. some (reads .digit0 ∙ z);
       no-1b = λ m e l. no-1b (word-1b reads of-1b m e l);
       no-2a = λ m e l. no-2a (word-2a reads of-2a m e l);
     }
-
-low-met : (x y : ℕ) → (bitAnd x y % 0x100 ≡ 0 → ⊥) → (x % 0x100 ≡ 0 → ⊥) × (y % 0x100 ≡ 0 → ⊥)
-low-met x y some =
-    ((λ z. some (and-mod x y 8 ∙ rw z (and-zero-l (y % 0x100)))), λ z. some (and-mod x y 8 ∙ rw z (and-zero-r (x % 0x100))))
 
 module _ (i b : ℕ) (t : List ℕ) (from : ℕ) where
   pub all-none : (to : ℕ) → to ≤ from → AllPassed i b t from to
@@ -80,12 +77,12 @@ module _ (i b : ℕ) (t : List ℕ) (from : ℕ) where
             ];
       }
 
-  -- one slot of a block further: `bits` of the slots so far, and `w` of the next
-  pub all-met : (j bits w : ℕ) → ((bits % 0x100 ≡ 0 → ⊥) → AllPassed i b t from (from + j)) → ((w % 0x100 ≡ 0 → ⊥) → Passed i b t (from + j))
-      → (bitAnd bits w % 0x100 ≡ 0 → ⊥) → AllPassed i b t from (from + (j + 1))
-  all-met j bits w before last some =
+  -- one slot of a block further: `any` of the slots so far, and `x` of the next
+  pub all-met : (j any x : ℕ) → (any ≡ 0 → AllPassed i b t from (from + j)) → (x ≡ 0 → Passed i b t (from + j))
+      → bitOr any x ≡ 0 → AllPassed i b t from (from + (j + 1))
+  all-met j any x before last none =
       let next : from + j + 1 ≡ from + (j + 1) = omega arith in
-      let both = low-met bits w some in
+      let both = or-none any x none in
       rw next at (all-next (from + j) (before (both .0)) (last (both .1)))
 
 not-both : (x i y b : ℕ) → (x ≡ i → y ≡ b → ⊥) → (eqb x i && eqb y b) ≡ false
@@ -102,19 +99,19 @@ skip-slot i b t k x g =
     λ m. not-both (getD t (at + 1) 0) i (getD t (at + 3) 0) b (x .no-1b m) in
     skip-other i b g t at (λ is. not-both (getD t (at + 1) 0) i (getD t (at + 2) 0) b (x .no-2a is)) (λ is. no-1b (rw is)) (λ is. no-1b (rw is))
 
-module _ (i b : ℕ) (ms : List Message) (t : List ℕ) (g : Gathered) (from to : ℕ) (room : to ≤ length t / slotSize)
-    (all : AllPassed i b t from to) (inv : Gathers i b ms g from (ahead t from)) where
-  gathers-slots : (j : ℕ) → from + j ≤ to → Gathers i b ms g (from + j) (ahead t (from + j))
+module _ (i b : ℕ) (ms : List Message) (t : List ℕ) (used : ℕ) (of-used : used ≡ edge t) (g : Gathered) (from to : ℕ) (within : to ≤ used)
+    (all : AllPassed i b t from to) (inv : Gathers i b ms g (ahead t from)) where
+  gathers-slots : (j : ℕ) → from + j ≤ to → Gathers i b ms g (ahead t (from + j))
   gathers-slots zero l = rw (add-zero from) inv
   gathers-slots (suc j) l =
       let next : from + j + 1 ≡ from + suc j = omega arith in
       let slot = all .each (from + j) (omega arith) (omega arith) in
-      subst (λ (k : ℕ). Gathers i b ms g k (ahead t k)) next
-      (gathers-next i b ms g (from + j) (ahead t (from + j)) (gathers-slots j (omega arith))
-      (messageAt t ((from + j) * slotSize)) (ahead t (from + j + 1)) (ahead-used t (from + j) (omega arith) (slot .used))
+      subst (λ (k : ℕ). Gathers i b ms g (ahead t k)) next
+      (gathers-next i b ms g (ahead t (from + j)) (gathers-slots j (omega arith))
+      (messageAt t ((from + j) * slotSize)) (ahead t (from + j + 1)) (ahead-next t used of-used (from + j) (omega arith))
       g (skip-slot i b t (from + j) slot g))
 
-  pub gathers-passed : from ≤ to → Gathers i b ms g to (ahead t to)
+  pub gathers-passed : from ≤ to → Gathers i b ms g (ahead t to)
   gathers-passed h =
       let end : from + (to - from) ≡ to = omega arith in
-      subst (λ (k : ℕ). Gathers i b ms g k (ahead t k)) end (gathers-slots (to - from) (omega arith))
+      subst (λ (k : ℕ). Gathers i b ms g (ahead t k)) end (gathers-slots (to - from) (omega arith))

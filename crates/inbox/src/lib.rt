@@ -1,17 +1,19 @@
-// What a leader reads from its inbox for Phase2a, in one pass over the inbox, which was judged before.
+// What a leader reads from its inbox for Phase2a, in one pass over the slots before the edge.
 //
-//     Reports, gather_reports     a 2a seen, a majority of 1b, the highest vote report, how many messages there are
+//     higher_vote, report_step         what one slot more shows
+//     sought, any_sought               whether a slot, or one of a block, is a 1b or a 2a of the instance and ballot
+//     passed_blocks, passed_to         past slots that are none, to the next that is
+//     gather                           from one that is sought to the next
+//     Reports, gather_reports          a 2a seen, a majority of 1b, the highest vote report, how many messages there are
 //
 // Decided, which it reads there too, is the crate `decided`. What both mean stands in specs/. No public function has a `requires`, and none
 // looks past the inbox.
-ghost use mathlib.Core.Bool.{true};
 ghost use mathlib.Core.List.{[]};
 ghost use mathlib.Core.Path.{_≡_};
-ghost use Prim.Native.Nat.{_+_, _/_, _%_, _≤_, _<_};
+ghost use Prim.Native.Nat.{_+_, _/_, _≤_, _<_};
 ghost use lib.ListN.{length};
 ghost use Rattle.slots.specs.Table.{slotSize};
-ghost use Rattle.slots.specs.Table.Scan.{peekTable};
-ghost use Rattle.slots.specs.View.Bytes.{leadingMessages};
+ghost use Rattle.slots.specs.Table.Scan.{edge, peekMessages};
 ghost use Rattle.slots.specs.Table.Words.{wordSize, WordFrom};
 ghost use Rattle.inbox.specs.Inbox.{higher, reportsOf};
 ghost use Rattle.inbox.specs.Inbox.Slots.{messageAt};
@@ -44,12 +46,6 @@ struct Gathered {
     proposed: bool,
     mask: u8,
     vote: Vote,
-}
-
-// What all messages have shown of it, and how many they are.
-struct Counted {
-    seen: Gathered,
-    count: usize,
 }
 
 // Of two vote reports the one with the higher ballot, and of equals the first.
@@ -113,8 +109,6 @@ fn report_step(inbox: &[u8], at: usize, instance: u8, ballot: u8, seen: Gathered
 // since it does not load past it.
 const BLOCK_SLOTS: usize = 33;
 
-const LAST_SLOT: usize = BLOCK_SLOTS - 1;
-
 // A map has this bit where it is one of the two of a 1b.
 const BIT_1B: u8 = 0x04;
 
@@ -124,9 +118,6 @@ const PARTS_1B: u32 = 0xFF00_FF04;
 // A word divided by this leaves its first three bytes: of a 2a map, instance and ballot.
 const THREE_BYTES: u32 = 0x100_0000;
 
-// The lowest byte of a number is what it leaves when divided by this.
-const BYTE: u32 = 0x100;
-
 // Four bytes from an index on as one number.
 fn word_from(bytes: &[u8], at: usize) -> u32
     requires { ⌜ at + wordSize ≤ length (now bytes) ⌝ }
@@ -135,64 +126,58 @@ fn word_from(bytes: &[u8], at: usize) -> u32
     slots::word(bytes[at], bytes[at + 1], bytes[at + 2], bytes[at + 3])
 }
 
-// The first word of a slot, and 0 where it is a 1b or a 2a of the instance and ballot. So its lowest byte is 0 too where the slot is unused.
-fn unsought(inbox: &[u8], place: usize, instance: u8, ballot: u8) -> u32
+// By the first word of a slot: 1 where it is a 1b or a 2a of the instance and ballot, else 0, so that a block has no branch.
+fn sought(inbox: &[u8], place: usize, instance: u8, ballot: u8) -> u32
     requires { ⌜ place < length (now inbox) / slotSize ⌝ }
-    ensures { λ r. ⌜ ((r % 0x100 ≡ 0 → ⊥) → Passed instance ballot (now (inbox .entry)) place) ⌝ }
+    ensures { λ r. ⌜ (r ≡ 0 → Passed instance ballot (now (inbox .entry)) place) ⌝ }
 {
     let word = word_from(inbox, place * SLOT_SIZE);
     if word & PARTS_1B == slots::word(BIT_1B, instance, 0, ballot) {
-        return 0;
+        return 1;
     }
     if word % THREE_BYTES == slots::word(MAP_2A, instance, ballot, 0) {
-        return 0;
+        return 1;
     }
-    word
+    0
 }
 
-// The bits that these words of a block share. Where all slots are in use and none is sought its lowest byte is not 0: all maps share the
-// order number's bit.
-fn shared(inbox: &[u8], place: usize, instance: u8, ballot: u8) -> u32
+// 0 only where no slot of a block is one of these.
+fn any_sought(inbox: &[u8], place: usize, instance: u8, ballot: u8) -> u32
     requires { ⌜ place + blockSlots ≤ length (now inbox) / slotSize ⌝ }
-    ensures { λ r. ⌜ ((r % 0x100 ≡ 0 → ⊥) → AllPassed instance ballot (now (inbox .entry)) place (place + blockSlots)) ⌝ }
+    ensures { λ r. ⌜ (r ≡ 0 → AllPassed instance ballot (now (inbox .entry)) place (place + blockSlots)) ⌝ }
 {
-    let mut bits: u32 = 0xFFFF_FFFF;
+    let mut any: u32 = 0;
     let mut i = 0;
     while i < BLOCK_SLOTS {
-        bits = bits & unsought(inbox, place + i, instance, ballot);
+        any = any | sought(inbox, place + i, instance, ballot);
         i += 1;
     }
-    bits
+    any
 }
 
-// Whether a block begins at a place and can be passed: true only where all its slots are in use, and none is a 1b or a 2a of the instance
-// and ballot. Its last slot is tested first: in a judged table it is unused where any of them is.
-fn is_passed(inbox: &[u8], place: usize, instance: u8, ballot: u8) -> bool
-    requires { ⌜ place ≤ length (now inbox) / slotSize ⌝ }
-    ensures { λ r. ⌜ (r ≡ true → (place + blockSlots ≤ length (now (inbox .entry)) / slotSize)
-        × AllPassed instance ballot (now (inbox .entry)) place (place + blockSlots)) ⌝ }
+// From a place on past whole blocks of used slots that have none.
+fn passed_blocks(inbox: &[u8], from: usize, used: usize, instance: u8, ballot: u8) -> usize
+    requires { ⌜ (from ≤ used) × (used ≤ length (now inbox) / slotSize) ⌝ }
+    ensures { λ r. ⌜ (from ≤ r) × (r ≤ used) × AllPassed instance ballot (now (inbox .entry)) from r ⌝ }
 {
-    if inbox.len() / SLOT_SIZE - place < BLOCK_SLOTS {
-        return false;
-    }
-    if inbox[(place + LAST_SLOT) * SLOT_SIZE] == 0 {
-        return false;
-    }
-    shared(inbox, place, instance, ballot) % BYTE != 0
-}
-
-// The first place from one on that cannot be passed: past whole blocks, then slot by slot.
-fn passed_to(inbox: &[u8], from: usize, instance: u8, ballot: u8) -> usize
-    requires { ⌜ from ≤ length (now inbox) / slotSize ⌝ }
-    ensures { λ r. ⌜ (from ≤ r) × (r ≤ length (now (inbox .entry)) / slotSize) × AllPassed instance ballot (now (inbox .entry)) from r ⌝ }
-{
-    let count = inbox.len() / SLOT_SIZE;
     let mut place = from;
-    while is_passed(inbox, place, instance, ballot) {
+    while BLOCK_SLOTS <= used - place {
+        if any_sought(inbox, place, instance, ballot) != 0 {
+            return place;
+        }
         place += BLOCK_SLOTS;
     }
-    while place < count {
-        if unsought(inbox, place, instance, ballot) % BYTE == 0 {
+    place
+}
+
+// The first place from one on where one of these stands, else where the used slots end: past whole blocks, then slot by slot.
+fn passed_to(inbox: &[u8], from: usize, used: usize, instance: u8, ballot: u8) -> usize
+    requires { ⌜ (from ≤ used) × (used ≤ length (now inbox) / slotSize) ⌝ }
+    ensures { λ r. ⌜ (from ≤ r) × (r ≤ used) × AllPassed instance ballot (now (inbox .entry)) from r ⌝ }
+{
+    let mut place = passed_blocks(inbox, from, used, instance, ballot);
+    while place < used {
+        if sought(inbox, place, instance, ballot) != 0 {
             return place;
         }
         place += 1;
@@ -200,39 +185,34 @@ fn passed_to(inbox: &[u8], from: usize, instance: u8, ballot: u8) -> usize
     place
 }
 
-// From one slot that cannot be passed to the next.
-fn gather(inbox: &[u8], instance: u8, ballot: u8) -> Counted
-    ensures { λ r. ⌜ Gathers instance ballot (leadingMessages (peekTable (now (inbox .entry)))) (r .seen) (r .count) [] ⌝ }
+// From one of these slots to the next, as far as slots are used.
+fn gather(inbox: &[u8], used: usize, instance: u8, ballot: u8) -> Gathered
+    requires { ⌜ used ≡ edge (now inbox) ⌝ }
+    ensures { λ r. ⌜ Gathers instance ballot (peekMessages (now (inbox .entry))) r [] ⌝ }
 {
-    let count = inbox.len() / SLOT_SIZE;
     let mut seen = Gathered {
         proposed: false,
         mask: 0,
         vote: Vote::None,
     };
     let mut from = 0;
-    while from < count {
-        let place = passed_to(inbox, from, instance, ballot);
-        if place == count {
-            return Counted { seen, count: place };
+    while from < used {
+        let place = passed_to(inbox, from, used, instance, ballot);
+        if place == used {
+            return seen;
         }
-        let at = place * SLOT_SIZE;
-        if inbox[at] == 0 {
-            return Counted { seen, count: place };
-        }
-        seen = report_step(inbox, at, instance, ballot, seen);
+        seen = report_step(inbox, place * SLOT_SIZE, instance, ballot, seen);
         from = place + 1;
     }
-    Counted { seen, count: from }
+    seen
 }
 
 // What Phase2a asks of the inbox, in one pass.
 pub fn gather_reports(plan: Plan, inbox: &[u8], instance: u8, ballot: u8) -> Reports
-    ensures { λ r. ⌜ r ≡ reportsOf plan (leadingMessages (peekTable (now (inbox .entry)))) instance ballot ⌝ }
+    ensures { λ r. ⌜ r ≡ reportsOf plan (peekMessages (now (inbox .entry))) instance ballot ⌝ }
 {
-    let counted = gather(inbox, instance, ballot);
-    let seen = counted.seen;
-    let count = counted.count;
+    let count = slots::edge(inbox);
+    let seen = gather(inbox, count, instance, ballot);
     let vote = seen.vote;
     if !message::is_plan(plan) {
         return Reports {

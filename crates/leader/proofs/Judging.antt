@@ -19,7 +19,7 @@ pub judged-views : (p : Plan) (inbox network : List ℕ) → accepted tt ≡ lea
     → (viewBytes p inbox ≡ viewTable p inbox) × (viewBytes p network ≡ viewTable p network)
 judged-views p inbox network e =
     let s = sound p inbox network (sym e) in
-    (view-judged p inbox (s .plan) (s .inbox-whole) (s .inbox-ordered), view-judged p network (s .plan) (s .network-whole) (s .network-ordered))
+    (view-judged p inbox (s .inbox-whole) (s .inbox-ordered), view-judged p network (s .network-whole) (s .network-ordered))
 
 pub step-sound : (p : Plan) (inbox network e : List ℕ) → accepted tt ≡ leaderJudged p inbox network
     → (r : Step) → r ≡ applied p inbox network (leaderVerdict p (viewBytes p inbox) (viewBytes p network) e) → r ≡ leaderStep p inbox network e

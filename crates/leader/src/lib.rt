@@ -97,11 +97,11 @@ fn phase1a_of(plan: Plan, network: &[u8], who: u8, instance: u8, ballot: u8) -> 
     )
 }
 
-// Kind 4: the slot's message is taken by the reader, 8 where there is none.
+// Kind 4: 8 where the slot has no message.
 fn receive(plan: Plan, inbox: &[u8], network: &[u8], slot: usize) -> Verdict
     ensures { λ r. ⌜ verdictOutcome r ≡ andThen (viewBytes plan (now (network .entry)) .slot slot) (receipt (viewBytes plan (now (inbox .entry)))) ⌝ }
 {
-    let answer = slots::message_at(plan, network, slot);
+    let answer = slots::message_at(network, slot);
     let Read::Message(m) = answer else {
         return Verdict::Refused(codec::read_refusal(answer));
     };
@@ -143,7 +143,7 @@ fn evaluate_kind(plan: Plan, inbox: &[u8], network: &[u8], event: &[u8], kind: u
 }
 
 // What the event comes to: 1 for the plan, 7 where it is no event of a leader, then 8, 9, 10, 12, 13 or 14. It judges no table: in one that
-// nobody judged the reader may refuse the slot with 15, 17 or 18.
+// nobody judged it takes the slot's bytes for a message.
 pub fn evaluate(plan: Plan, inbox: &[u8], network: &[u8], event: &[u8]) -> Verdict
     ensures { λ r. ⌜ verdictOutcome r ≡
         leaderVerdict plan (viewBytes plan (now (inbox .entry))) (viewBytes plan (now (network .entry))) (now (event .entry)) ⌝ }

@@ -170,7 +170,7 @@ fn say_message(text: Text, m: Message) -> Text {
 // The number of a slot of N, and the message in it, where there is one.
 fn say_slot(text: Text, plan: Plan, network: &[u8], slot: usize) -> Text {
     let text = say_number(text, slot as u64);
-    let Read::Message(m) = slots::message_at(plan, network, slot) else {
+    let Read::Message(m) = slots::message_at(network, slot) else {
         return say_words(text, b", where no message is");
     };
     let text = say_words(text, b": ");

@@ -4,7 +4,8 @@
 --     inboxSize, areLengths              the bytes of each of the L equal parts of I; row 2
 --     openJudged                         rows 1 and 2
 --     zeroed, Opening, openingOf, opened, recordOpen     opening a record: every byte zero
--- Assumes nothing.
+-- Where the parts of I lie is in Opening/Parts.antt. Assumes nothing.
+pub mod Parts
 use Prim.Native.Nat.{ℕ, _*_, _/_, _%_}
 use mathlib.Core.Bool.{Bool, not, _&&_}
 use mathlib.Core.List.{List}

@@ -18,7 +18,7 @@ use Rattle.rm.specs.Rm.{rmJudged, rmVerdict, rmStep}
 pub judged-view : (p : Plan) (states network : List ℕ) → accepted tt ≡ rmJudged p states network → viewBytes p network ≡ viewTable p network
 judged-view p states network e =
     let s = sound p states network (sym e) in
-    view-judged p network (s .plan) (s .whole) (s .ordered)
+    view-judged p network (s .whole) (s .ordered)
 
 pub step-sound : (p : Plan) (states network e : List ℕ) → accepted tt ≡ rmJudged p states network
     → (r : Step) → r ≡ applied p states network (rmVerdict p states (viewBytes p network) e) → r ≡ rmStep p states network e

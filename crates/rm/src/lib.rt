@@ -125,7 +125,7 @@ fn chosen_value(kind: u8) -> u8
     if kind == 0 { 1 } else { 2 }
 }
 
-// What an event of kinds 0, 1 and 2 comes to; for kind 2 the slot's message is taken by the reader, 8 where there is none. Kinds 0 and 1 are
+// What an event of kinds 0, 1 and 2 comes to; for kind 2 the slot's message is looked at, 8 where there is none. Kinds 0 and 1 are
 // one call, so that the compiler puts it in its place.
 fn evaluate_kind(plan: Plan, network: &[u8], kind: u8, who: u8, state: u8, slot: usize) -> Verdict
     ensures { λ r. ⌜ verdictOutcome r ≡ rmKind (viewBytes plan (now (network .entry))) kind who state slot ⌝ }
@@ -140,15 +140,15 @@ fn evaluate_kind(plan: Plan, network: &[u8], kind: u8, who: u8, state: u8, slot:
             chosen_value(kind),
         );
     }
-    let answer = slots::message_at(plan, network, slot);
+    let answer = slots::message_at(network, slot);
     let Read::Message(m) = answer else {
         return Verdict::Refused(codec::read_refusal(answer));
     };
     receive(who, state, m)
 }
 
-// What the event comes to: 1 for the plan, 7 where it is no event of a resource manager, then 8, 9, 11, 12 or 13. It judges no table: in one
-// that nobody judged the reader may refuse the slot with 15, 17 or 18.
+// What the event comes to: 1 for the plan, 7 where it is no event of a resource manager, then 8, 9, 11, 12 or 13. It judges no
+// table: in one that nobody judged it takes the slot's bytes for a message.
 pub fn evaluate(plan: Plan, states: &[u8], network: &[u8], event: &[u8]) -> Verdict
     ensures { λ r. ⌜ verdictOutcome r ≡ rmVerdict plan (now (states .entry)) (viewBytes plan (now (network .entry))) (now (event .entry)) ⌝ }
 {

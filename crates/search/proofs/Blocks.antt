@@ -1,50 +1,85 @@
--- The slots that are passed at once, one by one.
---     and-none                    what `&` keeps
---     others-start, others-next   none so far is unused or begins with the head: before the first, one slot further
---     others-fewer                of fewer slots
+-- Slots that are passed, one by one and many at a time.
+--     begins-none, begins-next     none begins with the word so far: of no slot, and one further
+--     begins-form                  a slot that does not begin as the form does is not the form
+--     passed-start, -more, -one, none-next     none is the form so far: of no slot, further on, one slot further
+--     found-end, found-here        the end without a slot that is the form, and such a slot
+--     row-further, found-row, passed-row     the same of a row
 -- Assumes nothing.
-use Prim.Native.Nat.{ℕ, _+_, _*_, _%_, _/_, _≤_, _<_}
-use mathlib.Core.List.{List}
-use mathlib.Core.Path.{_≡_, sym, _∙_}
-use native.Mathlib.Nat.{mod-lt, not-suc-le-zero, le-trans}
+use Prim.Native.Nat.{ℕ, suc, _+_, _*_, _/_, _≤_, _<_}
+use mathlib.Core.List.{List, []}
+use mathlib.Core.Path.{_≡_, sym, _∙_, subst}
+use native.Mathlib.Decide.{ℕ-discrete, decLe}
+use native.Mathlib.Nat.{le-refl, lt-irrefl, lt-of-lt-of-le}
 use native.Mathlib.Omega.{arith}
-use lib.Bits.{bitAnd, and-le-l, and-block, and-zero-l, and-zero-r}
-use lib.Dec.{lit<}
-use Rattle.slots.specs.Table.{slotSize}
+use lib.ListN.{length, getD}
+use Rattle.slots.specs.Table.{slotSize, slots}
 use Rattle.slots.specs.Table.Words.{WordFrom}
-use Rattle.slots.specs.Table.Words.Laws.{below-next}
-use Rattle.search.specs.Words.{lowByte}
-use Rattle.search.specs.Blocks.{OtherSlot, OtherSlots}
+use Rattle.slots.proofs.Eight.{slot-eight}
+use Rattle.search.specs.Blocks.{NoneBegins, NoneIs, Passed, Found}
 
-and-low : (a b : ℕ) → lowByte (bitAnd a b) ≡ bitAnd (lowByte a) (lowByte b)
-and-low a b =
-    let x : a / 256 * 256 + a % 256 ≡ a = omega arith in
-    let y : b / 256 * 256 + b % 256 ≡ b = omega arith in
-    let e = rw (x, y) at (and-block 8 (a / 256) (b / 256) (a % 256) (b % 256) (mod-lt a (lit< tt)) (mod-lt b (lit< tt))) in
-    let l = and-le-l (a % 256) (b % 256) in
-    let m : a % 256 < 256 = mod-lt a (lit< tt) in
-    rw e (omega (arith, l, m))
+module _ (t : List ℕ) (head from : ℕ) where
+  pub begins-none : NoneBegins t head from from
+  begins-none = record { each = λ k l m. absurd (omega arith) }
 
-pub and-none : (a b : ℕ) → (lowByte a ≡ 0 → lowByte (bitAnd a b) ≡ 0) × (lowByte b ≡ 0 → lowByte (bitAnd a b) ≡ 0)
-and-none a b = ((λ e. rw (and-low a b, e) (and-zero-l (lowByte b))), λ e. rw (and-low a b, e) (and-zero-r (lowByte a)))
+  -- `w` is the first word of the slot at `to`
+  pub begins-next : (to w : ℕ) → WordFrom t (to * slotSize) w → (w ≡ head → ⊥) → NoneBegins t head from to → NoneBegins t head from (to + 1)
+  begins-next to w reads differs before =
+      record {
+        each = λ k l m. elim (ℕ-discrete k to) [
+          | yes e ↦ λ x. differs (reads .sum ∙ sym ((rw e at x) .sum))
+          | no n ↦ before .each k l (omega arith)
+        ];
+      }
 
-module _ (t : List ℕ) (at head : ℕ) where
-  pub others-start : OtherSlots t at head 0
-  others-start = record { each = λ k l. absurd (not-suc-le-zero l) }
+module _ (t form : List ℕ) (from : ℕ) where
+  pub begins-form : (head to : ℕ) → WordFrom form 0 head → to ≤ length t / slotSize → NoneBegins t head from to → NoneIs t form from to
+  begins-form head to of-head fits none k l m e =
+      none .each k l m (subst (λ (f : List ℕ). WordFrom f 0 head) (sym e ∙ slot-eight t k (omega arith)) of-head)
 
-  -- `w` is the first word of the slot at i, `o` is `w` or zero, and `bits` and `o` were met in `j`
-  pub others-next : (i w o bits j : ℕ) → WordFrom t (at + i * slotSize) w → (lowByte w ≡ 0 → lowByte o ≡ 0) × (w ≡ head → lowByte o ≡ 0)
-      → (lowByte bits ≡ 0 → lowByte j ≡ 0) × (lowByte o ≡ 0 → lowByte j ≡ 0)
-      → ((lowByte bits ≡ 0 → ⊥) → OtherSlots t at head i) → (lowByte j ≡ 0 → ⊥) → OtherSlots t at head (i + 1)
-  others-next i w o bits j reads other met before some =
-      record { each = below-next (λ (k : ℕ). OtherSlot t (at + k * slotSize) head) i (before (λ z. some (met .0 z)) .each) last }
-    where
-      last : OtherSlot t (at + i * slotSize) head
-      last =
-          record {
-            used = λ z. some (met .1 (other .0 (reads .digit0 ∙ z)));
-            differs = λ x. some (met .1 (other .1 (reads .sum ∙ sym (x .sum))));
-          }
+  pub passed-start : (end : ℕ) → from ≤ end → Passed t form from end from
+  passed-start end h = record { after = le-refl from; before = h; others = λ k l m. absurd (omega arith) }
 
-  pub others-fewer : (i n : ℕ) → n ≤ i → OtherSlots t at head i → OtherSlots t at head n
-  others-fewer i n h x = record { each = λ k l. x .each k (le-trans l h) }
+  pub passed-more : (end place to : ℕ) → place ≤ to → to ≤ end → Passed t form from end place → NoneIs t form place to → Passed t form from end to
+  passed-more end place to on in-end p more =
+      record {
+        after = omega (arith, p .after);
+        before = in-end;
+        others = λ k l m. elim (decLe place k) [ yes h ↦ more k h m | no h ↦ p .others k l (omega arith) ];
+      }
+
+  pub none-next : (to : ℕ) → NoneIs t form from to → (getD (slots t) to [] ≡ form → ⊥) → NoneIs t form from (to + 1)
+  none-next to before differs k l m =
+      elim (ℕ-discrete k to) [
+        | yes e ↦ λ is. differs (rw e at is)
+        | no n ↦ before k l (omega arith)
+      ]
+
+  pub passed-one : (end place : ℕ) → place < end → Passed t form from end place → (getD (slots t) place [] ≡ form → ⊥) → Passed t form from end (place + 1)
+  passed-one end place in-end p differs =
+      record { after = omega (arith, p .after); before = omega arith; others = none-next place (p .others) differs }
+
+  pub found-end : (end place : ℕ) → end ≤ place → Passed t form from end place → Found t form from end place
+  found-end end place h p = record { passed = p; is = λ l. absurd (lt-irrefl place (lt-of-lt-of-le l h)) }
+
+  pub found-here : (end place : ℕ) → Passed t form from end place → getD (slots t) place [] ≡ form → Found t form from end place
+  found-here end place p is = record { passed = p; is = λ l. is }
+
+-- a row that begins before the end has a slot
+pub row-further : (place from to end : ℕ) → place < end → place ≤ from → from ≤ to → (from < end → from < to) → place < to
+row-further place from to end h on row some = elim (decLe (suc from) end) [ yes l ↦ omega (arith, some l) | no l ↦ omega arith ]
+
+-- what is found in a row that begins where all before was passed
+module _ (t form : List ℕ) (end place from to r : ℕ) (before : Passed t form 0 end place) (rows : Passed t form place end from) (in-end : to ≤ end) (row : Found t form from to r) where
+  upto : Passed t form 0 end from
+  upto = passed-more t form 0 end place from (rows .after) (rows .before) before (rows .others)
+
+  pub found-row : r < to → Found t form 0 end r
+  found-row h =
+      found-here t form 0 end r
+      (passed-more t form 0 end from r (row .passed .after) (omega (arith, row .passed .before)) upto (row .passed .others))
+      (row .is h)
+
+  pub passed-row : to ≤ r → Passed t form 0 end to
+  passed-row h =
+      passed-more t form 0 end from to (omega (arith, row .passed .before, row .passed .after)) in-end upto
+      (λ k l m. row .passed .others k l (omega arith))

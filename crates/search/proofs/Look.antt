@@ -1,58 +1,28 @@
--- Looking for a form slot by slot, and past many slots at once.
---     lookFrom                                  what looking from a place on finds
---     look-start, look-end                      from the start, and past the last slot
---     Compared, look-free, look-at, look-next   what the slot at a place says of it, by its number
---     look-passed                               past slots of which none is unused or the form
+-- Looking for a form in a table.
+--     Compared, is-form, not-form           the slot at a place and the form as numbers
+--     found-near, looked-near               what is found before the place near the edge
+--     Looked, looked-at, -next, -free, -full     what the slot at a place from there on says
 -- Assumes nothing.
-use Prim.Native.Nat.{ℕ, zero, suc, _+_, _*_, _/_, _≤_, _<_}
-use mathlib.Core.Bool.{false}
+use Prim.Native.Nat.{ℕ, zero, suc, _+_, _*_, _/_, _≤_, _<_, zero-le}
 use mathlib.Core.List.{List, []}
-use mathlib.Core.Path.{_≡_, refl, sym, _∙_, ap, subst}
-use native.Mathlib.Nat.{add-suc, add-zero}
+use mathlib.Core.Path.{_≡_, refl, sym, _∙_, ap}
+use native.Mathlib.Nat.{le-refl, le-of-eq}
 use native.Mathlib.Numerals.{add-one}
 use native.Mathlib.Omega.{arith}
 use lib.Dec.{eqb}
 use lib.ListN.{length, getD, drop}
-use borrow.Author.Tests.{eq-eqb, ne-eqb}
+use borrow.Author.Tests.{eq-eqb, eqb-true}
 use Rattle.slots.specs.declared.Place.{Place}
 use Rattle.slots.specs.declared.Place.the-variants.{At, Free, Full}
 use Rattle.slots.specs.Table.{slotSize, slots, sameBytes}
-use Rattle.slots.specs.Table.Laws.{length-slots}
-use Rattle.slots.specs.Table.Scan.{locateFrom, locate}
-use Rattle.slots.specs.Table.Scan.Laws.{sameBytes-false, locateFrom-free, locateFrom-at, locateFrom-next, locateFrom-end}
+use Rattle.slots.specs.Table.Scan.{nearEdge, edge, slotsHeld, locateFrom, locate}
+use Rattle.slots.specs.Table.Scan.Laws.{sameBytes-true, sameBytes-refl, sameBytes-false, locateFrom-at, locateFrom-next, locateFrom-free, locateFrom-full}
+use Rattle.slots.specs.Table.Edge.{near-below, edge-within, edge-at, edge-on, length-slotsHeld, held-at}
 use Rattle.slots.proofs.Eight.{eight, slot-eight}
-use Rattle.slots.specs.Table.Words.{WordFrom}
-use Rattle.search.specs.Words.{lowByte, EightFrom}
-use Rattle.search.specs.Words.Laws.{first-byte, eight-compared}
-use Rattle.search.specs.Blocks.{Passed}
-
--- what looking from the slot at `k` on finds
-pub lookFrom : List ℕ → List ℕ → ℕ → Place
-lookFrom t form k = locateFrom k (drop k (slots t)) form
-
--- the slot at a place
-abbrev slotAt : List ℕ → ℕ → List ℕ
-slotAt t k = getD (slots t) k []
-
-pub look-start : (t form : List ℕ) → lookFrom t form 0 ≡ locate t form
-unfolding lookFrom locate
-look-start t form = refl
-
-pub look-end : (t form : List ℕ) (k : ℕ) → length t / slotSize ≤ k → Full ≡ lookFrom t form k
-unfolding lookFrom
-look-end t form k h = sym (locateFrom-end _ _ _ (rw (length-slots t) h))
-
-module _ (t : List ℕ) (k : ℕ) (h : k < length t / slotSize) where
-  within : k < length (slots t)
-  within = rw (length-slots t) h
-
-  first : getD (slotAt t k) 0 0 ≡ getD t (k * slotSize) 0
-  first = ap (λ (s : List ℕ). getD s 0 0) (slot-eight t k h)
-
-  -- a slot that is in use and not the form is passed
-  look-other : (form : List ℕ) → (getD (slotAt t k) 0 0 ≡ 0 → ⊥) → sameBytes (slotAt t k) form ≡ false → lookFrom t form (k + 1) ≡ lookFrom t form k
-  unfolding lookFrom
-  look-other form used other = locateFrom-next _ _ _ within used other
+use Rattle.search.specs.Words.{EightFrom}
+use Rattle.search.specs.Words.Laws.{eight-compared}
+use Rattle.search.specs.Blocks.{NoneIs, Found}
+use Rattle.search.proofs.Blocks.{none-next}
 
 -- `slot` is the number of the slot at `k`, and `whole` that of the form
 pub record Compared (t form : List ℕ) (k slot whole : ℕ) : Type 0 where
@@ -62,44 +32,81 @@ pub record Compared (t form : List ℕ) (k slot whole : ℕ) : Type 0 where
   pub of-form : EightFrom form 0 whole
 
 module _ {t form : List ℕ} {k slot whole : ℕ} (c : Compared t form k slot whole) where
-  same : eqb slot whole ≡ sameBytes (slotAt t k) form
+  same : eqb slot whole ≡ sameBytes (getD (slots t) k []) form
   same = rw (slot-eight t k (c .inside), eight form (c .size)) (eight-compared (c .of-slot) (c .of-form))
 
-  map-byte : lowByte slot ≡ getD (slotAt t k) 0 0
-  map-byte = first-byte (c .of-slot) ∙ sym (first t k (c .inside))
+  pub is-form : slot ≡ whole → getD (slots t) k [] ≡ form
+  is-form e = sameBytes-true _ _ (sym same ∙ eq-eqb slot whole e)
 
-  pub look-free : lowByte slot ≡ 0 → Free k ≡ lookFrom t form k
+  pub not-form : (slot ≡ whole → ⊥) → getD (slots t) k [] ≡ form → ⊥
+  not-form differs e = differs (eqb-true slot whole (same ∙ ap (λ (s : List ℕ). sameBytes s form) e ∙ sameBytes-refl form))
+
+-- a place from the one near the edge up to the edge, before which no slot is the form
+pub record Looked (t form : List ℕ) (k : ℕ) : Type 0 where
+  pub from : nearEdge t ≤ k
+  pub to : k ≤ edge t
+  pub others : NoneIs t form 0 k
+
+-- what looking from the slot at `k` on finds
+lookFrom : List ℕ → List ℕ → ℕ → Place
+lookFrom t form k = locateFrom k (length t / slotSize) (drop k (slotsHeld t)) form
+
+module _ (t form : List ℕ) where
+  look-start : lookFrom t form 0 ≡ locate t form
+  unfolding lookFrom locate
+  look-start = refl
+
+  look-other : (k : ℕ) → k < edge t → (getD (slots t) k [] ≡ form → ⊥) → lookFrom t form (k + 1) ≡ lookFrom t form k
   unfolding lookFrom
-  look-free e = sym (locateFrom-free _ _ _ (within t k (c .inside)) (sym map-byte ∙ e))
+  look-other k h differs = locateFrom-next _ (slotsHeld t) form k (rw (length-slotsHeld t) h) (rw (held-at t k h) (sameBytes-false _ _ differs))
 
-  module _ (used : lowByte slot ≡ 0 → ⊥) where
-    in-use : getD (slotAt t k) 0 0 ≡ 0 → ⊥
-    in-use z = used (map-byte ∙ z)
+  -- none of the slots before it is the form
+  look-passed : (k : ℕ) → k ≤ edge t → NoneIs t form 0 k → lookFrom t form k ≡ locate t form
+  look-passed zero h none = look-start
+  look-passed (suc k) h none =
+      rw (← add-one k) (look-other k h (none k zero-le (le-refl _)) ∙ look-passed k (omega arith) (λ j l m. none j l (omega arith)))
 
-    pub look-at : slot ≡ whole → At k ≡ lookFrom t form k
-    unfolding lookFrom
-    look-at e = sym (locateFrom-at _ _ _ (within t k (c .inside)) in-use (sym same ∙ eq-eqb slot whole e))
+  look-at : (k : ℕ) → k < edge t → getD (slots t) k [] ≡ form → At k ≡ lookFrom t form k
+  unfolding lookFrom
+  look-at k h is =
+      sym (locateFrom-at _ (slotsHeld t) form k (rw (length-slotsHeld t) h) (rw (held-at t k h) (ap (λ (s : List ℕ). sameBytes s form) is ∙ sameBytes-refl form)))
 
-    pub look-next : (slot ≡ whole → ⊥) → lookFrom t form (k + 1) ≡ lookFrom t form k
-    look-next d = look-other t k (c .inside) form in-use (sym same ∙ ne-eqb slot whole d)
+  look-free : (k : ℕ) → edge t ≡ k → k < length t / slotSize → Free k ≡ lookFrom t form k
+  unfolding lookFrom
+  look-free k e h = sym (locateFrom-free _ (slotsHeld t) form k (rw (length-slotsHeld t) (le-of-eq e)) h)
 
-module _ (t form : List ℕ) (place head n : ℕ) (of-head : WordFrom form 0 head) (p : Passed t place head n) where
-  -- a slot that is the form begins with its first word
-  begins : (k : ℕ) → k < length t / slotSize → slotAt t k ≡ form → WordFrom t (k * slotSize) head
-  begins k h e = subst (λ (f : List ℕ). WordFrom f 0 head) (sym e ∙ slot-eight t k h) of-head
+  look-full : (k : ℕ) → edge t ≡ k → length t / slotSize ≤ k → Full ≡ lookFrom t form k
+  unfolding lookFrom
+  look-full k e h = sym (locateFrom-full _ (slotsHeld t) form k (rw (length-slotsHeld t) (le-of-eq e)) h)
 
-  look-one : (j : ℕ) → j < n → lookFrom t form (place + j + 1) ≡ lookFrom t form (place + j)
-  look-one j l =
-      let h : place + j < length t / slotSize = omega (arith, p .room) in
-      let byte : place * slotSize + j * slotSize ≡ (place + j) * slotSize = omega arith in
-      let slot = rw byte at (p .others .each j l) in
-      look-other t (place + j) h form
-      (λ z. slot .used (sym (first t (place + j) h) ∙ z))
-      (sameBytes-false _ _ (λ e. slot .differs (begins (place + j) h e)))
+-- what is found before the place near the edge
+module _ {t form : List ℕ} {r : ℕ} (f : Found t form 0 (nearEdge t) r) where
+  pub found-near : r < nearEdge t → At r ≡ locate t form
+  found-near h =
+      let in-edge : r < edge t = omega (arith, near-below t) in
+      look-at t form r in-edge (f .is h) ∙ look-passed t form r (omega (arith, in-edge)) (f .passed .others)
 
-  look-slots : (j : ℕ) → j ≤ n → lookFrom t form (place + j) ≡ lookFrom t form place
-  look-slots zero l = rw (add-zero place)
-  look-slots (suc j) l = rw (add-suc place j, ← add-one (place + j)) (look-one j l ∙ look-slots j (omega arith))
+  pub looked-near : nearEdge t ≤ r → Looked t form (nearEdge t)
+  looked-near h = record { from = le-refl _; to = near-below t; others = λ k l m. f .passed .others k l (omega arith) }
 
-  pub look-passed : lookFrom t form (place + n) ≡ lookFrom t form place
-  look-passed = look-slots n (omega arith)
+-- and slot by slot from there on
+module _ {t form : List ℕ} {k : ℕ} (l : Looked t form k) where
+  looked : lookFrom t form k ≡ locate t form
+  looked = look-passed t form k (l .to) (l .others)
+
+  pub looked-full : length t / slotSize ≤ k → Full ≡ locate t form
+  looked-full h = look-full t form k (omega (arith, l .to, edge-within t)) h ∙ looked
+
+  module _ (h : k < length t / slotSize) where
+    pub looked-free : getD t (k * slotSize) 0 ≡ 0 → Free k ≡ locate t form
+    looked-free e = look-free t form k (edge-at t k (l .from) (l .to) e) h ∙ looked
+
+    module _ (used : getD t (k * slotSize) 0 ≡ 0 → ⊥) where
+      in-edge : k < edge t
+      in-edge = edge-on t k (l .from) (l .to) h used
+
+      pub looked-at : getD (slots t) k [] ≡ form → At k ≡ locate t form
+      looked-at is = look-at t form k in-edge is ∙ looked
+
+      pub looked-next : (getD (slots t) k [] ≡ form → ⊥) → Looked t form (k + 1)
+      looked-next differs = record { from = omega (arith, l .from); to = omega (arith, in-edge); others = none-next t form 0 k (l .others) differs }

@@ -1,27 +1,27 @@
-// Looking for a message in a table, and what sending one comes to. In a table that nobody judged it looks at the bytes alike.
+// Looking for a message in a table, and what sending one comes to. In a table that nobody judged it looks at the slots before the edge,
+// whatever they hold.
 //
 //     word_from               four bytes as one number, a word
 //     pair, eight_from        two words as one number, so that a slot is compared in one step
-//     other, meet, kept       the bits that the maps of so many slots share, none where a slot begins as the form, without a branch
-//     is_passed               so many slots of which none is unused or the form
-//     slots_passed            how many slots are passed from a place on
-//     locate_form             the first slot with these eight bytes, or the first unused one
+//     same, hits              whether one of so many slots begins as the form does, without a branch
+//     passed_to, find_from    past so many slots at a time, and slot by slot
+//     row_end, find_before    the first slot with these eight bytes
+//     locate_form             that slot before the edge, or the one there
 //     locate_message          the same of a message
 //     send_message            the slot where a message stands or goes, decided before anything is stored
 //
 // What each of them means stands in the specs/ of `slots`; how bytes are taken as numbers, and blocks, in specs/. No public function has
 // a `requires`, and none looks past its table.
-ghost use mathlib.Core.Bool.{true};
 ghost use mathlib.Core.Path.{_≡_};
-ghost use Prim.Native.Nat.{_+_, _*_, _/_, _≤_};
+ghost use Prim.Native.Nat.{_+_, _/_, _≤_, _<_};
 ghost use lib.ListN.{length};
 ghost use Rattle.message.specs.Form.{slotOf};
 ghost use Rattle.slots.specs.Table.{slotSize};
 ghost use Rattle.slots.specs.Table.Scan.{locate};
 ghost use Rattle.slots.specs.View.Bytes.{viewBytes};
 ghost use Rattle.slots.specs.Table.Words.{wordSize, WordFrom};
-ghost use Rattle.search.specs.Words.{lowByte, Pair, EightFrom};
-ghost use Rattle.search.specs.Blocks.{OtherSlots, Passed};
+ghost use Rattle.search.specs.Words.{Pair, EightFrom};
+ghost use Rattle.search.specs.Blocks.{NoneBegins, Passed, Found};
 use message::Message;
 use message::Plan;
 use message::SLOT_SIZE;
@@ -32,10 +32,11 @@ use slots::Store;
 // The bytes of a word.
 const WORD_SIZE: usize = 4;
 
-// So many slots are looked at together without a branch: a block, or else a row.
-const BLOCK_SLOTS: usize = 64;
+// So many slots are looked at together without a branch: a block, and then a row. The compiler takes all but the last of a block in vector
+// steps, since it does not load past it.
+const BLOCK_SLOTS: usize = 73;
 
-const ROW_SLOTS: usize = 8;
+const ROW_SLOTS: usize = 16;
 
 // The lowest byte of a number is what it leaves when divided by this.
 const BYTE: u64 = 0x100;
@@ -63,87 +64,104 @@ fn eight_from(bytes: &[u8], at: usize) -> u64
     pair(word_from(bytes, at), word_from(bytes, at + WORD_SIZE))
 }
 
-// The word, or zero where it is `head`.
-fn other(word: u32, head: u32) -> u32
-    ensures { λ r. ⌜ (lowByte word ≡ 0 → lowByte r ≡ 0) × (word ≡ head → lowByte r ≡ 0) ⌝ }
+// One where the word is `head`, else zero.
+fn same(word: u32, head: u32) -> u32
+    ensures { λ r. ⌜ (r ≡ 0 → word ≡ head → ⊥) ⌝ }
 {
-    if word == head { 0 } else { word }
+    if word == head { 1 } else { 0 }
 }
 
-// Its lowest byte is zero where one of theirs is.
-fn meet(a: u32, b: u32) -> u32
-    ensures { λ r. ⌜ (lowByte a ≡ 0 → lowByte r ≡ 0) × (lowByte b ≡ 0 → lowByte r ≡ 0) ⌝ }
+// Zero only where none of so many slots begins with `head`. No branch depends on a slot, so that many are looked at in one step.
+fn hits(table: &[u8], place: usize, slots: usize, head: u32) -> u32
+    requires { ⌜ place + slots ≤ length (now table) / slotSize ⌝ }
+    ensures { λ r. ⌜ (r ≡ 0 → NoneBegins (now (table .entry)) head place (place + slots)) ⌝ }
 {
-    a & b
-}
-
-// Its lowest byte is zero where one of so many slots is unused or begins with `head`. Where they hold other messages it is not: all maps share
-// the order number's bit. No branch depends on a slot, so that many are looked at in one step.
-fn kept(table: &[u8], at: usize, slots: usize, head: u32) -> u32
-    requires { ⌜ at + slots * slotSize ≤ length (now table) ⌝ }
-    ensures { λ r. ⌜ ((lowByte r ≡ 0 → ⊥) → OtherSlots (now (table .entry)) at head slots) ⌝ }
-{
-    let mut bits: u32 = 0xFFFF_FFFF;
+    let mut bits: u32 = 0;
     let mut i = 0;
     while i < slots {
-        let k = at + i * SLOT_SIZE;
-        bits = meet(bits, other(word_from(table, k), head));
+        bits = bits | same(word_from(table, (place + i) * SLOT_SIZE), head);
         i += 1;
     }
     bits
 }
 
-// Whether so many slots begin at a place, a multiple of their number, and can be passed: true only where all are in use and none begins with
-// `head`. The last of them is tested first: in a judged table it is unused where any of them is.
-fn is_passed(table: &[u8], place: usize, slots: usize, head: u32) -> bool
-    requires { ⌜ (place ≤ length (now table) / slotSize) × (1 ≤ slots) ⌝ }
-    ensures { λ r. ⌜ (r ≡ true → Passed (now (table .entry)) place head slots) ⌝ }
+// From a place on, so many slots at a time, up to those of which one may be the form, or fewer than so many before `end`.
+fn passed_to(table: &[u8], from: usize, end: usize, slots: usize, form: &[u8]) -> usize
+    requires { ⌜ (from ≤ end) × (end ≤ length (now table) / slotSize) × (1 ≤ slots) × (length (now form) ≡ slotSize) ⌝ }
+    ensures { λ r. ⌜ Passed (now (table .entry)) (now (form .entry)) from end r ⌝ }
 {
-    if place % slots != 0 {
-        return false;
+    let head = word_from(form, 0);
+    let mut place = from;
+    while slots <= end - place {
+        if hits(table, place, slots, head) != 0 {
+            return place;
+        }
+        place += slots;
     }
-    if table.len() / SLOT_SIZE - place < slots {
-        return false;
-    }
-    let at = place * SLOT_SIZE;
-    if table[at + (slots - 1) * SLOT_SIZE] == 0 {
-        return false;
-    }
-    kept(table, at, slots, head) as u64 % BYTE != 0
+    place
 }
 
-// How many slots are passed from a place on: a block, a row or none.
-fn slots_passed(table: &[u8], place: usize, head: u32) -> usize
-    requires { ⌜ place ≤ length (now table) / slotSize ⌝ }
-    ensures { λ r. ⌜ Passed (now (table .entry)) place head r ⌝ }
+// The first slot from a place on with these eight bytes, slot by slot, or `end`.
+fn find_from(table: &[u8], from: usize, end: usize, form: &[u8]) -> usize
+    requires { ⌜ (from ≤ end) × (end ≤ length (now table) / slotSize) × (length (now form) ≡ slotSize) ⌝ }
+    ensures { λ r. ⌜ Found (now (table .entry)) (now (form .entry)) from end r ⌝ }
 {
-    if place % ROW_SLOTS != 0 {
-        return 0;
+    let whole = eight_from(form, 0);
+    let mut place = from;
+    while place < end {
+        if eight_from(table, place * SLOT_SIZE) == whole {
+            return place;
+        }
+        place += 1;
     }
-    if is_passed(table, place, BLOCK_SLOTS, head) {
-        return BLOCK_SLOTS;
-    }
-    if is_passed(table, place, ROW_SLOTS, head) {
-        return ROW_SLOTS;
-    }
-    0
+    place
 }
 
-// The first slot with these eight bytes, else the first unused one, else none: past many slots at once where that can be, else slot by slot.
+// Where a row ends that begins at a place.
+fn row_end(from: usize, end: usize) -> usize
+    requires { ⌜ from ≤ end ⌝ }
+    ensures { λ r. ⌜ (from ≤ r) × (r ≤ end) × (from < end → from < r) ⌝ }
+{
+    if ROW_SLOTS <= end - from {
+        from + ROW_SLOTS
+    } else {
+        end
+    }
+}
+
+// The first slot with these eight bytes, or `end`: past blocks, then past rows, and in a row that may have it slot by slot.
+fn find_before(table: &[u8], end: usize, form: &[u8]) -> usize
+    requires { ⌜ (end ≤ length (now table) / slotSize) × (length (now form) ≡ slotSize) ⌝ }
+    ensures { λ r. ⌜ Found (now (table .entry)) (now (form .entry)) 0 end r ⌝ }
+{
+    let mut place = passed_to(table, 0, end, BLOCK_SLOTS, form);
+    while place < end {
+        let from = passed_to(table, place, end, ROW_SLOTS, form);
+        let to = row_end(from, end);
+        let found = find_from(table, from, to, form);
+        if found < to {
+            return found;
+        }
+        place = to;
+    }
+    place
+}
+
+// The first slot with these eight bytes before the edge of the table, else the slot there, else none. Up to the place near the edge no slot is
+// looked at for being unused, and from there on each is.
 fn locate_form(table: &[u8], form: &[u8]) -> Place
     requires { ⌜ length (now form) ≡ slotSize ⌝ }
     ensures { λ r. ⌜ r ≡ locate (now (table .entry)) (now (form .entry)) ⌝ }
 {
-    let head = word_from(form, 0);
+    let near = slots::near_edge(table);
+    let found = find_before(table, near, form);
+    if found < near {
+        return Place::At(found);
+    }
     let whole = eight_from(form, 0);
     let count = table.len() / SLOT_SIZE;
-    let mut place = 0;
+    let mut place = near;
     while place < count {
-        let passed = slots_passed(table, place, head);
-        if passed != 0 {
-            place += passed;
-            continue;
-        }
         let slot = eight_from(table, place * SLOT_SIZE);
         if slot % BYTE == 0 {
             return Place::Free(place);
@@ -156,7 +174,7 @@ fn locate_form(table: &[u8], form: &[u8]) -> Place
     Place::Full
 }
 
-// The first slot where an equal message stands, else the first unused slot, in one pass up to it; or that there is no room.
+// The first slot before the edge where an equal message stands, else the slot there; or that there is no room.
 fn locate_message(plan: Plan, table: &[u8], m: Message) -> Place
     ensures { λ r. ⌜ r ≡ locate (now (table .entry)) (slotOf plan m) ⌝ }
 {

@@ -1,7 +1,6 @@
 -- A slot byte by byte.
 --     eight       eight bytes, one by one
 --     slot-eight  the slot at a place of a table
---     within      a map's length is within a slot
 -- Assumes nothing.
 use Prim.Native.Nat.{ℕ, zero, suc, _+_, _*_, _/_, _≤_, _<_}
 use mathlib.Core.List.{List, [], _∷_}
@@ -10,8 +9,6 @@ use native.Mathlib.Nat.{add-zero, add-suc, le-of-eq}
 use native.Mathlib.Omega.{arith}
 use lib.ListN.{length, getD, take, drop}
 use lib.Seq.{drop-cons, take-all}
-use Rattle.message.specs.Form.{mapLength}
-use Rattle.message.specs.Form.Laws.{mapLength-bound}
 use Rattle.slots.specs.Table.{slotSize, slots}
 use Rattle.slots.specs.Table.Laws.{getD-slots}
 
@@ -40,6 +37,3 @@ module _ (t : List ℕ) (k : ℕ) where
   slot-eight h =
       getD-slots t k h
       ∙ (rw add-zero at (take-bytes slotSize (k * slotSize) 0 t (omega arith)))
-
-pub within : (map len : ℕ) (s : List ℕ) → len ≡ mapLength map → length s ≡ slotSize → len ≤ length s
-within map len s e n = rw (e, n) (mapLength-bound map)

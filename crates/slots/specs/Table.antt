@@ -7,9 +7,10 @@
 --     tableOf                    the table of so many slots that holds these messages
 --     sameBytes, storeAt         whether two slots are the same; a slot's bytes replaced
 -- Its laws are in Table/Laws.antt, and what a judged table holds in Table/Holds.antt; Table/Foreign.antt is another order's message;
--- Table/Scan.antt is how the code looks at bytes, Table/Words.antt at many of them together.
+-- Table/Scan.antt is how the code looks at bytes, Table/Edge.antt where used slots end, Table/Words.antt at many bytes together.
 -- Assumes nothing.
 pub mod Scan
+pub mod Edge
 pub mod Words
 pub mod Laws
 pub mod Holds

@@ -1,7 +1,8 @@
 // Slot tables: the network N, or one inbox, as a slice of bytes (document 01, "The plan and four tables").
 //
 //     is_table_length                  row 2 of "Refusals by place": whole slots, at most 1,024
-//     message_at                       the message in a slot, by the reader
+//     message_at                       the message in a slot of a judged table
+//     near_edge, edge                  where the used slots of a judged table end
 //     Place, store_message             where a message stands or may be appended, and putting it there
 //     Store, Send, apply_store         what sending a message comes to, decided before anything is stored, and storing it
 //     set_byte                         a byte of a table
@@ -10,11 +11,12 @@
 // Looking for a message is the crate `search`, judging whole tables the crate `tables`.
 // What each of them means stands in specs/. No public function has a `requires`, and none looks past its table.
 ghost use mathlib.Core.Path.{_≡_};
+ghost use Prim.Native.Nat.{_/_, _≤_, _<_};
 ghost use lib.ListN.{length, set};
 ghost use Rattle.slots.specs.Table.{slotSize, isTableLength, storeAt};
 ghost use Rattle.message.specs.Form.{slotOf};
 ghost use Rattle.message.specs.Codec.{readOutcome};
-ghost use Rattle.slots.specs.Table.Scan.{readUsed, readAt};
+ghost use Rattle.slots.specs.Table.Scan.{peekSlot, slotMessage, peekAt, stepsFrom, nearEdge, edge};
 ghost use Rattle.slots.specs.View.{storeBytes};
 ghost use Rattle.slots.specs.Table.Words.{Word};
 use message::Message;
@@ -38,22 +40,20 @@ pub fn is_table_length(len: usize) -> bool
     true
 }
 
-fn read_used(plan: Plan, slot: &[u8]) -> Read
-    requires { ⌜ length (now slot) ≡ slotSize ⌝ }
-    ensures { λ r. ⌜ readOutcome r ≡ readUsed plan (now (slot .entry)) ⌝ }
+// The message that a slot's bytes make, or 8 in an unused slot.
+fn slot_message(slot: &[u8]) -> Read
+    ensures { λ r. ⌜ readOutcome r ≡ slotMessage (peekSlot (now (slot .entry))) ⌝ }
 {
-    let map = slot[0];
-    if map == 0 {
+    if message::byte_at(slot, 0) == 0 {
         return Read::Refused(8);
     }
-    let len = message::map_length(map);
-    codec::read_message(plan, &slot[..len])
+    Read::Message(codec::decode_message(slot))
 }
 
-// The message in the slot at a place, by the reader: 8 where the slot is unused or beyond the table; in a table that nobody judged also what
-// the reader refuses.
-pub fn message_at(plan: Plan, table: &[u8], place: usize) -> Read
-    ensures { λ r. ⌜ readOutcome r ≡ readAt plan (now (table .entry)) place ⌝ }
+// The message in the slot at a place of a table that was judged before: 8 where the slot is unused or beyond the table. In one that nobody
+// judged every first byte but 0 is taken for a map.
+pub fn message_at(table: &[u8], place: usize) -> Read
+    ensures { λ r. ⌜ readOutcome r ≡ peekAt (now (table .entry)) place ⌝ }
 {
     let count = table.len() / SLOT_SIZE;
     if count <= place {
@@ -61,7 +61,38 @@ pub fn message_at(plan: Plan, table: &[u8], place: usize) -> Read
     }
     let from = place * SLOT_SIZE;
     let to = from + SLOT_SIZE;
-    read_used(plan, &table[from..to])
+    slot_message(&table[from..to])
+}
+
+// From a place on by steps of so many slots, as long as the last slot of each is used.
+fn next_edge(table: &[u8], from: usize, step: usize) -> usize
+    requires { ⌜ (from ≤ length (now table) / slotSize) × (0 < step) ⌝ }
+    ensures { λ r. ⌜ (r ≡ stepsFrom (now (table .entry)) step (length (now (table .entry)) / slotSize) from) × (r ≤ length (now (table .entry)) / slotSize) ⌝ }
+{
+    let count = table.len() / SLOT_SIZE;
+    let mut place = from;
+    while step <= count - place {
+        let last = place + step - 1;
+        if table[last * SLOT_SIZE] == 0 {
+            return place;
+        }
+        place += step;
+    }
+    place
+}
+
+// A place before which all slots of a judged table are used, and after which less than 16 are.
+pub fn near_edge(table: &[u8]) -> usize
+    ensures { λ r. ⌜ r ≡ nearEdge (now (table .entry)) ⌝ }
+{
+    next_edge(table, next_edge(table, 0, 128), 16)
+}
+
+// Where the used slots of a judged table end, by the first bytes of some of them.
+pub fn edge(table: &[u8]) -> usize
+    ensures { λ r. ⌜ r ≡ edge (now (table .entry)) ⌝ }
+{
+    next_edge(table, near_edge(table), 1)
 }
 
 // Where a message stands in a table that was judged before, where it may be appended, or that there is no room.

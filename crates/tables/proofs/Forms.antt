@@ -24,8 +24,7 @@ use Rattle.message.specs.Form.Maps.{decoded-1a, decoded-1b, decoded-1b-vote, de
 use Rattle.message.specs.Codec.Laws.{readMessage-plan}
 use Rattle.slots.specs.Table.{Unused, Bad, slotSize, slots, isZero, usedSlot, readSlot, readTable, isTable}
 use Rattle.slots.specs.All.{all}
-use Rattle.slots.specs.Table.Scan.{leadingUsed}
-use Rattle.slots.specs.Table.Laws.{readSlot-unused, isTable-first}
+use Rattle.slots.specs.Table.Laws.{leadingUsed, readSlot-unused, isTable-first}
 use Rattle.slots.proofs.Eight.{slot-eight}
 use Rattle.tables.specs.Tables.Bounds.{isWithin, isWithinAt, putRow, putBounds, boundsOf, Bounded, areWithin, isForm}
 use Rattle.tables.specs.Tables.Each.{each, each-suc}

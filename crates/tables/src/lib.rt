@@ -5,8 +5,7 @@
 //     over, distance, lane   a byte beside its bounds
 //     add_slot               a slot's eight bytes beside the bounds of its map
 //     is_clear               whether all that were looked at lay within their bounds
-//     next_edge, edge        where the used slots end
-//     are_forms              whether each of them holds a message
+//     are_forms              whether each of the used slots holds a message
 //     is_unused              whether no slot is used
 //     is_table_within, are_tables     a table, and so many equal parts, by bounds that were made
 //     is_table               row 5 of "Refusals by place" for N alone
@@ -25,7 +24,7 @@ ghost use Rattle.slots.specs.Table.{slotSize, isZero, isTable};
 ghost use Rattle.change.specs.Change.{judgedOutcome};
 ghost use Rattle.tables.specs.Tables.{areTables, tablesJudged};
 ghost use Rattle.tables.specs.Tables.Bounds.{isWithin, isWithinAt, setRows, putBounds, Bounded, isForm, isClear};
-ghost use Rattle.tables.specs.Tables.Edge.{Reached, Edge, areUsed};
+ghost use Rattle.tables.specs.Tables.Edge.{areUsed};
 
 mod zeros;
 
@@ -247,33 +246,6 @@ fn is_clear(seen: Lanes) -> bool
         & (seen.b7 == 0)
 }
 
-// From a place on by steps, each of which ends at a used slot.
-fn next_edge(table: &[u8], from: usize, step: usize) -> usize
-    requires { ⌜ Reached (now table) from × (0 < step) ⌝ }
-    ensures { λ r. ⌜ Reached (now (table .entry)) r × Edge (now (table .entry)) r step ⌝ }
-{
-    let count = table.len() / SLOT_SIZE;
-    let mut place = from;
-    while step <= count - place {
-        let last = place + step - 1;
-        if table[last * SLOT_SIZE] == 0 {
-            return place;
-        }
-        place += step;
-    }
-    place
-}
-
-// A place with a used slot before it and an unused one at it, as far as the first bytes tell: where the used slots of a well-formed
-// table end.
-fn edge(table: &[u8]) -> usize
-    ensures { λ r. ⌜ Reached (now (table .entry)) r × Edge (now (table .entry)) r 1 ⌝ }
-{
-    let far = next_edge(table, 0, 128);
-    let near = next_edge(table, far, 16);
-    next_edge(table, near, 1)
-}
-
 // Whether the first slots, this many, hold messages, by the bounds of the plan.
 fn are_forms(plan: Plan, bounds: &[[u8; SLOT_SIZE]; BOUNDS], table: &[u8], used: usize) -> bool
     requires { ⌜ Bounded plan (now bounds) × (used ≤ length (now table) / slotSize) ⌝ }
@@ -312,7 +284,7 @@ fn is_table_within(plan: Plan, bounds: &[[u8; SLOT_SIZE]; BOUNDS], table: &[u8])
     if message::byte_at(table, 0) == 0 {
         return is_unused(table);
     }
-    let used = edge(table);
+    let used = slots::edge(table);
     if !are_forms(plan, bounds, table, used) {
         return false;
     }

@@ -11,7 +11,7 @@ use lib.ListN.{length, take, drop}
 use Rattle.message.specs.declared.Plan.{Plan}
 use Rattle.opening.specs.Opening.{inboxSize}
 use Rattle.judging.specs.Judging.{inboxOf}
-use Rattle.verdict.specs.Verdict.Parts.{inbox-within}
+use Rattle.opening.specs.Opening.Parts.{inbox-within}
 
 -- the part that the code takes
 abbrev pub partOf : Plan → List ℕ → ℕ → List ℕ

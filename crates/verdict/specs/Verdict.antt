@@ -2,8 +2,7 @@
 -- answers and stores (`step-applied` of record/proofs/Stepping.antt). The four tables are the crate `opening`, leader l's inbox the crate `judging`.
 --     leaderOn          what a leader makes of its event
 --     recordVerdict     7 where it is no event, else what the role of its kind makes of it
--- That each inbox lies within I is in Verdict/Parts.antt. Assumes nothing.
-pub mod Parts
+-- Assumes nothing.
 use Prim.Native.Nat.{ℕ}
 use mathlib.Core.Bool.{not, cond}
 use mathlib.Core.List.{List}

@@ -1,7 +1,7 @@
 -- Slots that Phase2a passes.
 --     blockSlots            the slots of a block, which are passed at once
 --     bit1b                 the bit that the two maps of a 1b have, and no other map
---     Passed, AllPassed     a slot is in use and no 1b and no 2a of the instance and ballot; each of some slots is so
+--     Passed, AllPassed     a slot is no 1b and no 2a of the instance and ballot; each of some slots is so
 -- Assumes nothing.
 use Prim.Native.Nat.{ℕ, _+_, _*_, _≤_, _<_}
 use mathlib.Core.List.{List}
@@ -18,9 +18,8 @@ blockSlots = 33
 abbrev pub bit1b : ℕ
 bit1b = 4
 
--- the slot at place k is in use, and no 1b and no 2a of instance i and ballot b
+-- the slot at place k is no 1b and no 2a of instance i and ballot b
 pub record Passed (i b : ℕ) (t : List ℕ) (k : ℕ) : Type 0 where
-  pub used : getD t (k * slotSize) 0 ≡ 0 → ⊥
   pub no-1b : bitAnd (getD t (k * slotSize) 0) bit1b ≡ bit1b → getD t (k * slotSize + 1) 0 ≡ i → getD t (k * slotSize + 3) 0 ≡ b → ⊥
   pub no-2a : getD t (k * slotSize) 0 ≡ map2a → getD t (k * slotSize + 1) 0 ≡ i → getD t (k * slotSize + 2) 0 ≡ b → ⊥
 

@@ -1,14 +1,13 @@
 -- What Phase2a asks of the inbox, gathered message by message, and that this is what Inbox.antt says.
 --     noReports, reportStep     before the first message, and one message further
---     Gathers                   what was gathered from so many messages and what is ahead make up what all messages say
+--     Gathers                   what was gathered and what is ahead make up what all messages say
 --     gathers-start, -next, -end     before the first message, one message further, and none left
 --     reports-bad-plan, reports-plan     the answer, from what was gathered
 -- Assumes nothing.
-use Prim.Native.Nat.{ℕ, _+_, _<_, _≤_}
+use Prim.Native.Nat.{ℕ, _<_, _≤_}
 use mathlib.Core.Bool.{Bool, true, false, _&&_, _||_, cond, or-true, or-false, or-assoc}
 use mathlib.Core.List.{List, [], _∷_}
 use mathlib.Core.Path.{_≡_, refl, sym, _∙_, ap}
-use native.Mathlib.Nat.{add-zero, zero-add}
 use native.Mathlib.Omega.{arith}
 use lib.Dec.{ltb, eqb}
 use lib.ListN.{length}
@@ -118,43 +117,40 @@ module _ (i b : ℕ) (g : Gathered) where
 pub or-next : (all x y z : Bool) → all ≡ (x || (y || z)) → (next : Bool) → next ≡ (x || y) → all ≡ (next || z)
 or-next all x y z e next k = e ∙ sym (or-assoc x y z) ∙ ap (λ (t : Bool). t || z) (sym k)
 
--- what was gathered from the first `count` messages and what is ahead make up what all messages say
-pub record Gathers (i b : ℕ) (ms : List Message) (g : Gathered) (count : ℕ) (rest : List Message) : Type 0 where
+-- what was gathered and what is ahead make up what all messages say
+pub record Gathers (i b : ℕ) (ms : List Message) (g : Gathered) (rest : List Message) : Type 0 where
   pub proposed : any (is2a i b) ms ≡ (g .proposed || any (is2a i b) rest)
   pub member : (a : ℕ) → a < 8 → any (is1b i b a) ms ≡ (hasBit (g .mask) a || any (is1b i b a) rest)
   pub vote : highestReport i b ms ≡ higher (g .vote) (highestReport i b rest)
-  pub counted : length ms ≡ count + length rest
 
 module _ (i b : ℕ) (ms : List Message) where
-  pub gathers-start : Gathers i b ms noReports 0 ms
+  pub gathers-start : Gathers i b ms noReports ms
   unfolding higher
   gathers-start =
       record {
         proposed = refl;
         member = λ a h. sym (ap (λ (t : Bool). t || any (is1b i b a) ms) (hasBit-zero a));
         vote = refl;
-        counted = sym (zero-add (length ms));
       }
 
-  module _ (g : Gathered) (count : ℕ) (here : List Message) (inv : Gathers i b ms g count here) where
+  module _ (g : Gathered) (here : List Message) (inv : Gathers i b ms g here) where
     pub gathers-next : (m : Message) (rest : List Message) → here ≡ m ∷ rest → (g′ : Gathered) → g′ ≡ reportStep i b g m
-        → Gathers i b ms g′ (count + 1) rest
+        → Gathers i b ms g′ rest
     unfolding any highestReport
     gathers-next m rest e g′ k =
-        let inv′ : Gathers i b ms g count (m ∷ rest) = rw e at inv in
+        let inv′ : Gathers i b ms g (m ∷ rest) = rw e at inv in
         rw k
         (record {
           proposed = or-next _ (g .proposed) (is2a i b m) (any (is2a i b) rest) (inv′ .proposed) _ (step-proposed i b g m);
           member = λ a h. or-next _ (hasBit (g .mask) a) (is1b i b a m) (any (is1b i b a) rest) (inv′ .member a h) _ (step-bit i b g m a h);
           vote = inv′ .vote ∙ sym (higher-assoc _ _ _) ∙ ap (λ (u : Vote). higher u (highestReport i b rest)) (sym (step-vote i b g m));
-          counted = inv′ .counted ∙ omega arith;
         })
 
-    pub gathers-end : here ≡ [] → Gathers i b ms g count []
+    pub gathers-end : here ≡ [] → Gathers i b ms g []
     gathers-end e = rw e at inv
 
   -- all messages gathered
-  module _ (g : Gathered) (count : ℕ) (inv : Gathers i b ms g count []) where
+  module _ (g : Gathered) (inv : Gathers i b ms g []) (count : ℕ) (all-count : count ≡ length ms) where
     all-proposed : g .proposed ≡ any (is2a i b) ms
     unfolding any
     all-proposed = sym (inv .proposed ∙ or-false _)
@@ -166,9 +162,6 @@ module _ (i b : ℕ) (ms : List Message) where
     all-vote : g .vote ≡ highestReport i b ms
     unfolding highestReport
     all-vote = sym (inv .vote ∙ higher-none _)
-
-    all-count : count ≡ length ms
-    all-count = sym (inv .counted ∙ add-zero count)
 
     pub reports-bad-plan : (p : Plan) → isPlan p ≡ false
         → _≡_ {A = Reports} (record { proposed = g .proposed; quorum = false; vote = g .vote; count = count }) (reportsOf p ms i b)

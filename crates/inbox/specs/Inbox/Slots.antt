@@ -3,27 +3,26 @@
 --     slotCases                 a rule that is shown for the six maps holds of it
 --     message-1b, -1b-vote, -2a     what it is where the map is known
 --     ahead                     the messages from a slot on
---     ahead-used, -unused, -end     one message further, and none left
+--     used-within               the used slots are slots of the inbox
+--     ahead-next, -end          one message further, and none left
 -- Assumes nothing.
 use Prim.Native.Nat.{ℕ, _+_, _*_, _/_, _≤_, _<_}
-use mathlib.Core.Bool.{cond}
 use mathlib.Core.List.{List, [], _∷_}
-use mathlib.Core.Path.{_≡_, refl, sym, _∙_, ap, ap₂}
-use native.Mathlib.Nat.{add-zero, add-sub-cancel-left}
-use lib.Dec.{eqb, lit<}
+use mathlib.Core.Path.{_≡_, _∙_}
+use native.Mathlib.Nat.{add-zero, le-trans}
+use native.Mathlib.Numerals.{add-one}
+use lib.Dec.{lit<}
 use lib.ListN.{length, getD, take, drop}
 use lib.Seq.{getD-take, getD-drop}
-use borrow.Author.Tests.{eq-eqb, ne-eqb}
 use Rattle.message.specs.declared.Vote.the-variants.{None, Cast}
 use Rattle.message.specs.declared.Message.{Message}
 use Rattle.message.specs.declared.Message.the-variants.{Phase1a, Phase1b, Phase2a, Phase2b, Decision}
 use Rattle.message.specs.Form.{map1a, map1b, map1bVote, map2a, map2b, fieldsMessage, decode}
 use Rattle.message.specs.Form.Maps.{fields-1b, fields-1b-vote, fields-2a, Other, fieldsCases, decode-fields}
-use Rattle.slots.specs.Table.{Unused, Used, slotSize}
-use Rattle.slots.specs.Table.Laws.{slotAt}
-use Rattle.slots.specs.Table.Scan.{peekSlot, peekTable}
-use Rattle.slots.specs.View.Bytes.{leadingMessages}
-use Rattle.slots.specs.View.Laws.{leading-used, leading-unused, leading-end}
+use Rattle.slots.specs.Table.{slotSize}
+use Rattle.slots.specs.Table.Laws.{getD-slots}
+use Rattle.slots.specs.Table.Scan.{edge, peekMessages}
+use Rattle.slots.specs.Table.Edge.{edge-within, peek-next, peek-end}
 
 pub messageAt : List ℕ → ℕ → Message
 messageAt t at = fieldsMessage (getD t at 0) (getD t (at + 1) 0) (getD t (at + 2) 0) (getD t (at + 3) 0) (getD t (at + 4) 0) (getD t (at + 5) 0)
@@ -60,7 +59,7 @@ module _ (t : List ℕ) (at : ℕ) where
   message-2a is = rw is (fields-2a _ _ _ _ _)
 
 abbrev pub ahead : List ℕ → ℕ → List Message
-ahead t k = leadingMessages (drop k (peekTable t))
+ahead t k = drop k (peekMessages t)
 
 -- the slot's bytes, at their places in the table
 decode-part : (t : List ℕ) (from : ℕ) → decode (take slotSize (drop from t)) ≡ messageAt t from
@@ -72,24 +71,16 @@ decode-part t from =
     byte : (j : ℕ) → j < slotSize → getD (take slotSize (drop from t)) j 0 ≡ getD t (from + j) 0
     byte j h = getD-take slotSize (drop from t) j 0 h ∙ getD-drop from t j 0
 
-peek-part : (t : List ℕ) (from : ℕ) → peekSlot (take slotSize (drop from t)) ≡ cond (eqb (getD t from 0) 0) Unused (Used (messageAt t from))
-unfolding peekSlot
-peek-part t from = ap₂ (λ (x : ℕ) (m : Message). cond (eqb x 0) Unused (Used m)) first (decode-part t from)
-  where
-    first : getD (take slotSize (drop from t)) 0 0 ≡ getD t from 0
-    first = getD-take slotSize (drop from t) 0 0 (lit< tt) ∙ getD-drop from t 0 0 ∙ ap (λ (j : ℕ). getD t j 0) (add-zero from)
+-- `used` is where the used slots end
+module _ (t : List ℕ) (used : ℕ) (of-used : used ≡ edge t) where
+  pub used-within : used ≤ length t / slotSize
+  used-within = rw of-used (edge-within t)
 
-module _ (t : List ℕ) (k : ℕ) where
-  module _ (h : k < length t / slotSize) where
-    peek-at : getD (peekTable t) k Unused ≡ cond (eqb (getD t (k * slotSize) 0) 0) Unused (Used (messageAt t (k * slotSize)))
-    unfolding peekTable peekSlot
-    peek-at = sym (rw (add-sub-cancel-left (k * slotSize) slotSize) at (slotAt peekSlot Unused refl t k h)) ∙ peek-part t (k * slotSize)
+  module _ (k : ℕ) where
+    pub ahead-next : k < used → ahead t k ≡ messageAt t (k * slotSize) ∷ ahead t (k + 1)
+    ahead-next h =
+        peek-next t k (rw of-used at h)
+        ∙ rw (getD-slots t k (le-trans h used-within), decode-part t (k * slotSize), add-one k)
 
-    pub ahead-used : (getD t (k * slotSize) 0 ≡ 0 → ⊥) → ahead t k ≡ messageAt t (k * slotSize) ∷ ahead t (k + 1)
-    ahead-used n = leading-used t k h (messageAt t (k * slotSize)) (peek-at ∙ rw (ne-eqb _ _ n))
-
-    pub ahead-unused : getD t (k * slotSize) 0 ≡ 0 → ahead t k ≡ []
-    ahead-unused e = leading-unused t k h (peek-at ∙ rw (eq-eqb _ _ e))
-
-  pub ahead-end : length t / slotSize ≤ k → ahead t k ≡ []
-  ahead-end h = leading-end t k h
+    pub ahead-end : used ≤ k → ahead t k ≡ []
+    ahead-end h = peek-end t k (rw of-used at h)

@@ -4,7 +4,7 @@
 --     inboxOf-with, inboxOf-with-other          that inbox is then what was put, and the others are as they were
 --     with-inboxOf                              put back as it was it gives I
 --     zeros-inboxOf                             an inbox of zeros is zeros
--- That leader l's inbox lies within I is `inbox-within` of the crate `verdict`. Assumes nothing.
+-- That leader l's inbox lies within I is `inbox-within` of the crate `opening`. Assumes nothing.
 use Prim.Native.Nat.{ℕ, _+_, _-_, _*_, _/_, _<_, _≤_}
 use mathlib.Core.Bool.{Bool, true, false}
 use mathlib.Core.List.{List, _++_}
@@ -15,7 +15,7 @@ use lib.ListN.{length, take, drop, replicate, length-append, length-take, length
 use lib.Seq.{length-take-le, take-at, drop-at, take-append-le, drop-append-le, drop-drop}
 use borrow.Author.Tests.{ltb-true, ltb-false}
 use Rattle.message.specs.declared.Plan.{Plan}
-use Rattle.verdict.specs.Verdict.Parts.{parts-apart, inbox-within}
+use Rattle.opening.specs.Opening.Parts.{parts-apart, inbox-within}
 use Rattle.record.specs.Record.{inboxSize, inboxOf, withInbox}
 
 -- a list with the `s` elements from `a` on replaced by as many others

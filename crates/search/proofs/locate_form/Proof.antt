@@ -1,68 +1,50 @@
--- `search::locate_form` meets its contract: looking from `place` on finds what looking from the start finds. Assumes nothing.
-use Prim.Native.Nat.{_≤_, _-_}
-use mathlib.Core.Path.{_≡_, _∙_}
-use native.Mathlib.Omega.{arith}
+-- `search::locate_form` meets its contract: up to `place` no slot is the form, and from the place near the edge on all are used. Assumes nothing.
+use Prim.Native.Nat.{_-_, _*_, _%_}
+use mathlib.Core.Path.{_≡_, sym, _∙_}
 use borrow.Author.Needs.{needs}
 use denote.Ref.{now}
-use Rattle.slots.specs.Table.Scan.{locate}
-use Rattle.search.proofs.Look.{lookFrom, look-start, look-end, Compared, look-free, look-at, look-next, look-passed}
+use lib.ListN.{getD}
+use Rattle.slots.specs.Table.{slotSize}
+use Rattle.slots.specs.Table.Scan.{nearEdge}
+use Rattle.slots.specs.Table.Edge.{near-within}
+use Rattle.search.specs.Words.Laws.{first-byte}
+use Rattle.search.specs.Blocks.{Found}
+use Rattle.search.proofs.Look.{Compared, is-form, not-form, found-near, looked-near, Looked, looked-at, looked-next, looked-free, looked-full}
 use Rattle.search.proofs.locate_form.Statement.{statement}
 use Rattle.search.proofs.locate_form.Tie as tie
 
 abbrev Inv-loop : tie.InvT-loop
-Inv-loop table form head whole count place₀ place = (place ≤ count) × (lookFrom table form place ≡ locate table form)
+Inv-loop table form near found whole count place₀ place = Looked table form place
 
 abbrev μ-loop : tie.MeasureT-loop
-μ-loop table form head whole count place₀ place = count - place
+μ-loop table form near found whole count place₀ place = count - place
 
--- where the function began, from the loop's head
-abbrev start : tie.At-loop Inv-loop μ-loop → tie.Start Inv-loop μ-loop
-start c = c .before .before .before .before .before
+-- what was found before the place near the edge
+abbrev begun : tie.After-find-before Inv-loop μ-loop → tie.Start Inv-loop μ-loop
+begun c = c .before .before .before .before
 
--- the loop's test and its head, from where the slot was read
-abbrev tested : tie.After-eight-from2 Inv-loop μ-loop → tie.In-loop Inv-loop μ-loop
-tested c = c .before .before .before
+found : (c : tie.After-find-before Inv-loop μ-loop)
+    → Found (now (begun c .args .table)) (now (begun c .args .form)) 0 (nearEdge (now (begun c .args .table))) (c .find-before .result)
+found c = rw (c .before .near-edge .ensures) at (c .find-before .ensures)
 
-abbrev looped : tie.After-eight-from2 Inv-loop μ-loop → tie.At-loop Inv-loop μ-loop
-looped c = tested c .before
+near-edge-requires : tie.Need-near-edge-requires Inv-loop μ-loop
+near-edge-requires c κs = tt
 
--- the slot and the form as numbers
-compared : (c : tie.After-eight-from2 Inv-loop μ-loop)
-    → Compared (now (start (looped c) .args .table)) (now (start (looped c) .args .form)) (looped c .loop .place)
-    (c .eight-from2 .result) (looped c .before .eight-from .result)
-compared c =
-    record {
-      size = start (looped c) .pre;
-      inside = tested c .loop-test .taken;
-      of-slot = c .eight-from2 .ensures;
-      of-form = looped c .before .eight-from .ensures;
-    }
+find-before-requires : tie.Need-find-before-requires Inv-loop μ-loop
+find-before-requires c κs = (rw (c .near-edge .ensures) (near-within _), c .before .before .before .pre)
 
-word-from-requires : tie.Need-word-from-requires Inv-loop μ-loop
-word-from-requires c κs = search needs
+returns : tie.Need-returns Inv-loop μ-loop
+returns c = let at-found = c .before in found-near (found at-found) (rw (at-found .before .near-edge .ensures) at (c .if1 .taken))
 
 eight-from-requires : tie.Need-eight-from-requires Inv-loop μ-loop
 eight-from-requires c κs = search needs
 
 loop-holds : tie.Need-loop-holds Inv-loop μ-loop
-loop-holds c = (search needs, look-start _ _)
-
-slots-passed-requires : tie.Need-slots-passed-requires Inv-loop μ-loop
-slots-passed-requires c κs = search needs
-
-add-place : tie.Need-add-place Inv-loop μ-loop
-add-place c = search needs
-
-loop-less : tie.Need-loop-less Inv-loop μ-loop
-loop-less c = let at-passed = c .before in omega (arith, at-passed .slots-passed .ensures .room, c .if1 .taken)
-
-loop-again : tie.Need-loop-again Inv-loop μ-loop
-loop-again c =
-    let at-passed = c .before in
-    let at-loop = at-passed .before .before in
-    let at-head = at-loop .before .before in
-    let slots = at-passed .slots-passed .ensures in
-    (omega (arith, slots .room), look-passed _ _ _ _ _ (at-head .word-from .ensures) slots ∙ at-loop .loop .inv .1)
+loop-holds c =
+    let at-left = c .before in
+    let at-found = at-left .before in
+    let near = at-found .before .near-edge .ensures in
+    rw near (looked-near (found at-found) (rw near at (at-left .if1 .left)))
 
 mul-eight-from : tie.Need-mul-eight-from Inv-loop μ-loop
 mul-eight-from c = search needs
@@ -70,29 +52,60 @@ mul-eight-from c = search needs
 eight-from-requires-2 : tie.Need-eight-from-requires-2 Inv-loop μ-loop
 eight-from-requires-2 c κs = search needs
 
-returns : tie.Need-returns Inv-loop μ-loop
-returns c = let at-slot = c .before in look-free (compared at-slot) (c .if2 .taken) ∙ looped at-slot .loop .inv .1
+-- the loop's test and its head, from where the slot was read, and where the function began
+abbrev tested : tie.After-eight-from2 Inv-loop μ-loop → tie.In-loop Inv-loop μ-loop
+tested c = c .before
+
+abbrev looped : tie.After-eight-from2 Inv-loop μ-loop → tie.At-loop Inv-loop μ-loop
+looped c = tested c .before
+
+abbrev start : tie.After-eight-from2 Inv-loop μ-loop → tie.Start Inv-loop μ-loop
+start c = begun (looped c .before .before .before)
+
+-- the slot and the form as numbers
+compared : (c : tie.After-eight-from2 Inv-loop μ-loop)
+    → Compared (now (start c .args .table)) (now (start c .args .form)) (looped c .loop .place) (c .eight-from2 .result) (looped c .before .eight-from .result)
+compared c =
+    record {
+      size = start c .pre;
+      inside = tested c .loop-test .taken;
+      of-slot = c .eight-from2 .ensures;
+      of-form = looped c .before .eight-from .ensures;
+    }
+
+-- a slot that does not begin with 0
+used : (c : tie.After-eight-from2 Inv-loop μ-loop) → (c .eight-from2 .result % 0x100 ≡ 0 → ⊥) → getD (now (start c .args .table)) (looped c .loop .place * slotSize) 0 ≡ 0 → ⊥
+used c left e = left (first-byte (c .eight-from2 .ensures) ∙ e)
 
 returns-2 : tie.Need-returns-2 Inv-loop μ-loop
 returns-2 c =
-    let at-used = c .before in
-    let at-slot = at-used .before in
-    look-at (compared at-slot) (at-used .if2 .left) (c .if3 .taken) ∙ looped at-slot .loop .inv .1
-
-add-place-2 : tie.Need-add-place-2 Inv-loop μ-loop
-add-place-2 c = search needs
-
-loop-less-2 : tie.Need-loop-less-2 Inv-loop μ-loop
-loop-less-2 c = search needs
-
-loop-again-2 : tie.Need-loop-again-2 Inv-loop μ-loop
-loop-again-2 c =
-    let at-used = c .before in
-    let at-slot = at-used .before in
-    (omega (arith, compared at-slot .inside), look-next (compared at-slot) (at-used .if2 .left) (c .if3 .left) ∙ looped at-slot .loop .inv .1)
+    let at-slot = c .before in
+    looked-free (looped at-slot .loop .inv) (tested at-slot .loop-test .taken) (sym (first-byte (at-slot .eight-from2 .ensures)) ∙ c .if2 .taken)
 
 returns-3 : tie.Need-returns-3 Inv-loop μ-loop
-returns-3 c = look-end _ _ _ (c .loop-test .left) ∙ c .before .loop .inv .1
+returns-3 c =
+    let at-used = c .before in
+    let at-slot = at-used .before in
+    looked-at (looped at-slot .loop .inv) (tested at-slot .loop-test .taken)
+    (used at-slot (at-used .if2 .left))
+    (is-form (compared at-slot) (c .if3 .taken))
+
+add-place : tie.Need-add-place Inv-loop μ-loop
+add-place c = search needs
+
+loop-less : tie.Need-loop-less Inv-loop μ-loop
+loop-less c = search needs
+
+loop-again : tie.Need-loop-again Inv-loop μ-loop
+loop-again c =
+    let at-used = c .before in
+    let at-slot = at-used .before in
+    looked-next (looped at-slot .loop .inv) (tested at-slot .loop-test .taken)
+    (used at-slot (at-used .if2 .left))
+    (not-form (compared at-slot) (c .if3 .left))
+
+returns-4 : tie.Need-returns-4 Inv-loop μ-loop
+returns-4 c = looked-full (c .before .loop .inv) (c .loop-test .left)
 
 pub locate-form-spec : {M : Type 1} → statement M
 locate-form-spec =
@@ -100,18 +113,16 @@ locate-form-spec =
     (tie.spec
     Inv-loop
     μ-loop
-    word-from-requires
+    near-edge-requires
+    find-before-requires
+    returns
     eight-from-requires
     loop-holds
-    slots-passed-requires
+    mul-eight-from
+    eight-from-requires-2
+    returns-2
+    returns-3
     add-place
     loop-less
     loop-again
-    mul-eight-from
-    eight-from-requires-2
-    returns
-    returns-2
-    add-place-2
-    loop-less-2
-    loop-again-2
-    returns-3)
+    returns-4)

@@ -1,44 +1,36 @@
 -- The steps on the bytes of a table that holds messages are the steps on the messages.
---     peek-table, read-holds     all slots, and the slot at a place
+--     peek-holds, edge-holds, messages-holds     the slot at a place, the edge, the messages before it
 --     locate-holds     where a message stands or may be appended
 --     store-holds      the table after a message was appended
 -- Assumes nothing.
-use Prim.Native.Nat.{ℕ, zero, suc, _+_, _-_, _*_, _/_, _<_}
+use Prim.Native.Nat.{ℕ, zero, suc, _+_, _-_, _*_, _/_, _≤_, _<_, zero-le}
 use mathlib.Core.Bool.{true, cond}
 use mathlib.Core.List.{List, [], _∷_, _++_, map, append-assoc, map-append}
 use mathlib.Core.Path.{_≡_, refl, sym, _∙_, ap, ap₂}
+use native.Mathlib.Decide.{decLe}
+use native.Mathlib.Nat.{le-of-suc-le-suc, not-suc-le-zero}
 use native.Mathlib.Numerals.{add-one}
 use native.Mathlib.Omega.{arith}
 use lib.ListN.{length, getD, take, drop, replicate, length-append, length-map}
 use lib.Seq.{take-at, drop-at, drop-drop}
-use borrow.Author.Tests.{ne-eqb, lt-ltb, le-ltb}
 use Rattle.message.specs.declared.Plan.{Plan}
 use Rattle.message.specs.declared.Message.{Message}
-use Rattle.message.specs.Outcome.{Outcome, accepted, refused}
-use Rattle.message.specs.Plan.{isPlan}
-use Rattle.message.specs.Form.{slotOf, isInRange}
-use Rattle.message.specs.Form.Laws.{length-slotOf, take-slotOf, decode-slotOf}
-use Rattle.message.specs.Codec.Laws.{readMessage-bytesOf}
-use Rattle.slots.specs.Table.{Unused, Used, slotSize, slots, joinSlots, tableOf, sameBytes, storeAt}
+use Rattle.message.specs.Form.{slotOf, decode, isInRange}
+use Rattle.message.specs.Form.Laws.{length-slotOf, decode-slotOf, slotOf-used}
+use Rattle.slots.specs.Table.{Slot, Unused, Used, slotSize, slots, joinSlots, tableOf, sameBytes, storeAt}
 use Rattle.message.specs.Outcome.Laws.{both}
 use Rattle.slots.specs.declared.Place.the-variants.{At}
-use Rattle.slots.specs.Table.Scan.{peekSlot, peekTable, readUsed, readAt, locateFrom, locate}
-use Rattle.slots.specs.Table.Scan.Laws.{readUsed-unused, readUsed-used, storeAt-in}
-use Rattle.message.specs.Form.Laws.{slotOf-used, mapLength-slotOf}
+use Rattle.slots.specs.Table.Scan.{peekSlot, peekTable, slotMessage, peekAt, edge, slotsHeld, peekMessages, locateFrom, locate}
+use Rattle.slots.specs.Table.Edge.{edge-within, edge-reached, edge-unused}
+use Rattle.slots.specs.Table.Laws.{first-slot}
+use Rattle.slots.specs.Table.Scan.Laws.{peekSlot-used, storeAt-in}
 use Rattle.slots.specs.Send.{sameMessage, placeFrom, placeIn, messageAt}
 use Rattle.slots.specs.Table.Holds.{Holds, zeroSlot, AllSized, length-joinSlots, slots-tableOf, read-holding, length-holds, allInRange}
 
 peek-slotOf : (p : Plan) (m : Message) → peekSlot (slotOf p m) ≡ Used m
-unfolding peekSlot
-peek-slotOf p m = rw (ne-eqb _ _ (slotOf-used p m), decode-slotOf p m)
+peek-slotOf p m = peekSlot-used (slotOf p m) (slotOf-used p m) ∙ ap Used (decode-slotOf p m)
 
--- the reader gives the message of its slot back
-read-used : (p : Plan) → isPlan p ≡ true → (m : Message) → isInRange p m ≡ true → readUsed p (slotOf p m) ≡ accepted m
-read-used p plan m i =
-    readUsed-used p (slotOf p m) (slotOf-used p m)
-    ∙ (rw (mapLength-slotOf p m, take-slotOf p m) (readMessage-bytesOf p m plan i))
-
-holding-at : (ms : List Message) (j k : ℕ) → getD (map accepted ms ++ replicate k (refused 8)) j (refused 8) ≡ messageAt ms j
+holding-at : (ms : List Message) (j k : ℕ) → slotMessage (getD (map Used ms ++ replicate k Unused) j Unused) ≡ messageAt ms j
 unfolding messageAt
 holding-at [] j zero = refl
 holding-at [] zero (suc k) = refl
@@ -46,35 +38,66 @@ holding-at [] (suc j) (suc k) = holding-at [] j k
 holding-at (m ∷ ms) zero k = refl
 holding-at (m ∷ ms) (suc j) k = holding-at ms j k
 
+-- the first bytes of slots that hold messages, and of unused ones
+used-first : (p : Plan) (ms : List Message) (k n : ℕ) → k < length ms → getD (getD (map (slotOf p) ms ++ replicate n zeroSlot) k []) 0 0 ≡ 0 → ⊥
+used-first p [] k n h e = not-suc-le-zero h
+used-first p (m ∷ ms) zero n h e = slotOf-used p m e
+used-first p (m ∷ ms) (suc k) n h e = used-first p ms k n (le-of-suc-le-suc h) e
+
+unused-first : (p : Plan) (ms : List Message) (k n : ℕ) → length ms ≤ k → getD (getD (map (slotOf p) ms ++ replicate n zeroSlot) k []) 0 0 ≡ 0
+unused-first p [] k zero h = refl
+unused-first p [] zero (suc n) h = refl
+unused-first p [] (suc k) (suc n) h = unused-first p [] k n zero-le
+unused-first p (m ∷ ms) zero n h = absurd (not-suc-le-zero h)
+unused-first p (m ∷ ms) (suc k) n h = unused-first p ms k n (le-of-suc-le-suc h)
+
+decode-slots : (p : Plan) (ms : List Message) → map decode (map (slotOf p) ms) ≡ ms
+decode-slots p [] = refl
+decode-slots p (m ∷ ms) = ap₂ (λ (a : Message) (b : List Message). a ∷ b) (decode-slotOf p m) (decode-slots p ms)
+
 module _ (p : Plan) (room : ℕ) (ms : List Message) (t : List ℕ) (h : Holds p room ms t) where
-  pub peek-table : peekTable t ≡ map Used ms ++ replicate (room - length ms) Unused
+  peek-table : peekTable t ≡ map Used ms ++ replicate (room - length ms) Unused
   unfolding peekTable peekSlot
   peek-table =
       ap (λ (u : List ℕ). map peekSlot (slots u)) (h .form)
       ∙ ap (map peekSlot) (slots-tableOf p room ms)
       ∙ read-holding peekSlot Used Unused refl p ms (λ m i. peek-slotOf p m) (h .inRange) (room - length ms)
 
-  pub read-holds : isPlan p ≡ true → (k : ℕ) → readAt p t k ≡ messageAt ms k
-  unfolding readAt
-  read-holds plan k =
-      ap (λ (u : List ℕ). getD (map (readUsed p) (slots u)) k (refused 8)) (h .form)
-      ∙ ap (λ (l : List (List ℕ)). getD (map (readUsed p) l) k (refused 8)) (slots-tableOf p room ms)
-      ∙ ap (λ (l : List (Outcome Message)). getD l k (refused 8))
-      (read-holding (readUsed p) accepted (refused 8) (readUsed-unused p zeroSlot refl) p ms (read-used p plan) (h .inRange) (room - length ms))
-      ∙ holding-at ms k (room - length ms)
+  pub peek-holds : (k : ℕ) → peekAt t k ≡ messageAt ms k
+  unfolding peekAt
+  peek-holds k = ap (λ (l : List Slot). slotMessage (getD l k Unused)) peek-table ∙ holding-at ms k (room - length ms)
+
+  -- the edge is the number of messages: a slot begins with 0 exactly where it is after them
+  pub edge-holds : edge t ≡ length ms
+  edge-holds = go (decLe (suc (length ms)) (edge t)) (decLe (suc (edge t)) (length ms))
+    where
+      first : (k : ℕ) → k < length t / slotSize → getD (getD (map (slotOf p) ms ++ replicate (room - length ms) zeroSlot) k []) 0 0 ≡ getD t (k * slotSize) 0
+      first k l = ap (λ (ss : List (List ℕ)). getD (getD ss k []) 0 0) (sym (ap slots (h .form) ∙ slots-tableOf p room ms)) ∙ first-slot t k l
+
+      go : Dec (length ms < edge t) → Dec (edge t < length ms) → edge t ≡ length ms
+      go (yes more) d =
+          absurd (edge-reached t .before (omega arith)
+          (sym (first (edge t - 1) (omega (arith, edge-within t))) ∙ unused-first p ms (edge t - 1) (room - length ms) (omega arith)))
+      go (no n) (yes fewer) =
+          let in-table : edge t < length t / slotSize = omega (arith, length-holds p room ms t h, h .fits) in
+          absurd (used-first p ms (edge t) (room - length ms) fewer (first (edge t) in-table ∙ edge-unused t in-table))
+      go (no n) (no m) = omega arith
+
+  held-holds : slotsHeld t ≡ map (slotOf p) ms
+  unfolding slotsHeld
+  held-holds =
+      ap₂ (λ (n : ℕ) (ss : List (List ℕ)). take n ss) edge-holds (ap slots (h .form) ∙ slots-tableOf p room ms)
+      ∙ take-at (map (slotOf p) ms) _ (length ms) (length-map ms (slotOf p))
+
+  pub messages-holds : peekMessages t ≡ ms
+  unfolding peekMessages
+  messages-holds = ap (map decode) held-holds ∙ decode-slots p ms
 
 -- looking for a message among the slots that hold messages
-locate-holding : (p : Plan) (ms : List Message) (j k : ℕ) (m : Message) → locateFrom j (map (slotOf p) ms ++ replicate k zeroSlot) (slotOf p m) ≡ placeFrom p j (j + length ms + k) ms m
+locate-holding : (p : Plan) (ms : List Message) (j room : ℕ) (m : Message) → locateFrom j room (map (slotOf p) ms) (slotOf p m) ≡ placeFrom p j room ms m
 unfolding locateFrom placeFrom sameMessage
-locate-holding p [] j zero m = sym (rw (le-ltb j (j + 0 + 0) (omega arith)))
-locate-holding p [] j (suc k) m = sym (rw (lt-ltb j (j + 0 + suc k) (omega arith)))
-locate-holding p (x ∷ ms) j k m =
-    rw (ne-eqb (getD (slotOf p x) 0 0) 0 (slotOf-used p x))
-    (ap (cond (sameBytes (slotOf p x) (slotOf p m)) (At j))
-    (locate-holding p ms (suc j) k m ∙ ap (λ (room : ℕ). placeFrom p (suc j) room ms m) (shift j (length ms) k)))
-  where
-    shift : (j l k : ℕ) → suc j + l + k ≡ j + suc l + k
-    shift j l k = omega arith
+locate-holding p [] j room m = refl
+locate-holding p (x ∷ ms) j room m = ap (cond (sameBytes (slotOf p x) (slotOf p m)) (At j)) (locate-holding p ms (suc j) room m)
 
 joinSlots-append : (a b : List (List ℕ)) → joinSlots (a ++ b) ≡ joinSlots a ++ joinSlots b
 unfolding joinSlots
@@ -124,11 +147,8 @@ module _ (p : Plan) (room : ℕ) (ms : List Message) (t : List ℕ) (h : Holds p
   pub locate-holds : locate t (slotOf p m) ≡ placeIn p room ms m
   unfolding locate placeIn
   locate-holds =
-      let n : 0 + length ms + (room - length ms) ≡ room = omega (arith, h .fits) in
-      ap (λ (u : List ℕ). locateFrom 0 (slots u) (slotOf p m)) (h .form)
-      ∙ ap (λ (l : List (List ℕ)). locateFrom 0 l (slotOf p m)) (slots-tableOf p room ms)
-      ∙ locate-holding p ms 0 (room - length ms) m
-      ∙ ap (λ (r : ℕ). placeFrom p 0 r ms m) n
+      ap₂ (λ (r : ℕ) (ss : List (List ℕ)). locateFrom 0 r ss (slotOf p m)) (omega (arith, length-holds p room ms t h)) (held-holds p room ms t h)
+      ∙ locate-holding p ms 0 room m
 
   pub store-holds : length ms < room → isInRange p m ≡ true → Holds p room (ms ++ (m ∷ [])) (storeAt t (length ms) (slotOf p m))
   unfolding tableOf before filled rest joinSlots

@@ -1,22 +1,23 @@
 -- The laws of slot tables.
 --     isZero-replicate, isZero-form                   zeros
 --     length-slotsUpTo, getD-slotsUpTo, drop-slotsUpTo, joinSlots-slotsUpTo      slots by place
---     length-slots, getD-slots                        the slots of a table
+--     length-slots, getD-slots, first-slot            the slots of a table, and their first bytes
 --     readSlot-unused, -used                          a slot of zeros, and one with a message
 --     slotAt, slotAt-end, length-readTable            the slot at a place, by any rule
---     readAt-in, readAt-out                           the same by the reader
---     leadingUsed-bound, -readTable                   counting the used slots at the start
+--     peekAt-in, peekAt-out                           its message
+--     leadingUsed, -bound, -readTable                 how many slots at the start are used
+--     map-drop                                        a part of what a rule makes
 --     isTable-zero, -none, -first                     a table is well formed where all bytes after them are zeros
 -- Assumes nothing.
 use Prim.Native.Nat.{ℕ, zero, suc, _+_, _-_, _*_, _/_, _≤_, _<_, zero-le, suc-le-suc}
 use mathlib.Core.Bool.{Bool, true, false, _&&_, cond}
 use mathlib.Core.List.{List, [], _∷_, _++_, map}
 use mathlib.Core.Path.{_≡_, refl, sym, _∙_, ap, ap₂}
-use native.Mathlib.Nat.{add-sub-cancel-left, not-suc-le-zero, sub-zero, suc-sub-suc}
+use native.Mathlib.Nat.{add-zero, add-sub-cancel-left, not-suc-le-zero, sub-zero, suc-sub-suc}
 use native.Mathlib.Omega.{arith}
 use lib.Dec.{eqb, lit≤}
 use lib.ListN.{length, getD, take, drop, replicate, length-map, List·getD-map, List·getD-eq-default}
-use lib.Seq.{drop-drop, take-add, getD-take}
+use lib.Seq.{drop-drop, take-add, getD-take, getD-drop}
 use borrow.Author.Tests.{eqb-true}
 use Rattle.message.specs.declared.Plan.{Plan}
 use Rattle.message.specs.declared.Message.{Message}
@@ -27,8 +28,8 @@ use Rattle.slots.specs.Table.{Slot, Unused, Used, Bad, slotSize, slotsUp
 use Rattle.slots.specs.All.{all}
 use Rattle.message.specs.Outcome.Laws.{both}
 use Rattle.slots.specs.All.Laws.{all-append}
-use Rattle.slots.specs.Table.Scan.{readUsed, readAt, leadingUsed}
-use Rattle.slots.specs.Table.Scan.Laws.{readUsed-unused}
+use Rattle.slots.specs.Table.Scan.{peekSlot, peekTable, slotMessage, peekAt}
+use Rattle.slots.specs.Table.Scan.Laws.{peekSlot-unused}
 use Rattle.message.specs.Codec.Laws.{readMessage-none}
 
 pub isZero-replicate : (n : ℕ) → isZero (replicate n 0) ≡ true
@@ -79,6 +80,13 @@ pub getD-slots : (t : List ℕ) (k : ℕ) → k < length t / slotSize → getD (
 unfolding slots
 getD-slots t k h = getD-slotsUpTo (length t / slotSize) k t h
 
+pub first-slot : (t : List ℕ) (k : ℕ) → k < length t / slotSize → getD (getD (slots t) k []) 0 0 ≡ getD t (k * slotSize) 0
+first-slot t k h =
+    ap (λ (s : List ℕ). getD s 0 0) (getD-slots t k h)
+    ∙ getD-take slotSize (drop (k * slotSize) t) 0 0 (lit≤ tt)
+    ∙ getD-drop (k * slotSize) t 0 0
+    ∙ ap (λ (i : ℕ). getD t i 0) (add-zero (k * slotSize))
+
 -- a slot case by case
 module _ (p : Plan) (s : List ℕ) where
   pub readSlot-unused : isZero s ≡ true → readSlot p s ≡ Unused
@@ -104,17 +112,23 @@ module _ {A : Type 0} (read : List ℕ → A) (none : A) (of-none : read [] ≡ 
   pub slotAt-end : length t / slotSize ≤ k → none ≡ getD (map read (slots t)) k none
   slotAt-end h = sym (List·getD-eq-default (map read (slots t)) none (rw (length-map (slots t) read, length-slots t) h))
 
--- the slot at a place by the reader, and past the end
-module _ (p : Plan) (t : List ℕ) (k : ℕ) where
-  pub readAt-in : k < length t / slotSize → readUsed p (take (k * slotSize + slotSize - k * slotSize) (drop (k * slotSize) t)) ≡ readAt p t k
-  unfolding readAt
-  readAt-in h = slotAt (readUsed p) (refused 8) (readUsed-unused p [] refl) t k h
+-- the message in the slot at a place, and past the end
+module _ (t : List ℕ) (k : ℕ) where
+  pub peekAt-in : k < length t / slotSize → slotMessage (peekSlot (take (k * slotSize + slotSize - k * slotSize) (drop (k * slotSize) t))) ≡ peekAt t k
+  unfolding peekAt peekTable
+  peekAt-in h = ap slotMessage (slotAt peekSlot Unused (peekSlot-unused [] refl) t k h)
 
-  pub readAt-out : length t / slotSize ≤ k → refused 8 ≡ readAt p t k
-  unfolding readAt
-  readAt-out h = slotAt-end (readUsed p) (refused 8) (readUsed-unused p [] refl) t k h
+  pub peekAt-out : length t / slotSize ≤ k → refused 8 ≡ peekAt t k
+  unfolding peekAt peekTable
+  peekAt-out h = ap slotMessage (slotAt-end peekSlot Unused (peekSlot-unused [] refl) t k h)
 
--- counting the used slots at the start
+-- how many slots at the start are used
+unfoldable pub leadingUsed : List Slot → ℕ
+leadingUsed [] = 0
+leadingUsed (Unused ∷ rest) = 0
+leadingUsed (Used m ∷ rest) = suc (leadingUsed rest)
+leadingUsed (Bad ∷ rest) = 0
+
 pub leadingUsed-bound : (l : List Slot) → leadingUsed l ≤ length l
 unfolding leadingUsed
 leadingUsed-bound [] = zero-le
@@ -151,10 +165,10 @@ allUnused-slots p [] = refl
 allUnused-slots p (s ∷ ss) =
     allUnused-cons p s (map (readSlot p) ss) ∙ ap (λ (b : Bool). isZero s && b) (allUnused-slots p ss) ∙ sym (all-append (λ x. eqb x 0) s (joinSlots ss))
 
-map-drop : (p : Plan) (u : ℕ) (ss : List (List ℕ)) → drop u (map (readSlot p) ss) ≡ map (readSlot p) (drop u ss)
-map-drop p zero ss = refl
-map-drop p (suc u) [] = refl
-map-drop p (suc u) (s ∷ ss) = map-drop p u ss
+pub map-drop : {A B : Type 0} (f : A → B) (u : ℕ) (l : List A) → drop u (map f l) ≡ map f (drop u l)
+map-drop f zero l = refl
+map-drop f (suc u) [] = refl
+map-drop f (suc u) (x ∷ l) = map-drop f u l
 
 -- a table is well formed exactly when all bytes after its leading used slots are zeros
 pub isTable-zero : (p : Plan) (t : List ℕ) (u : ℕ) → u ≡ leadingUsed (readTable p t) → isTable p t ≡ isZero (take (length t / slotSize * slotSize - u * slotSize) (drop (u * slotSize) t))
@@ -162,7 +176,7 @@ unfolding isTable readTable slots
 isTable-zero p t u e =
     isOrdered-leading _
     ∙ ap (λ (k : ℕ). allUnused (drop k (map (readSlot p) (slotsUpTo (length t / slotSize) t)))) (sym e)
-    ∙ ap allUnused (map-drop p u _)
+    ∙ ap allUnused (map-drop (readSlot p) u _)
     ∙ allUnused-slots p _
     ∙ ap isZero
     (ap joinSlots (drop-slotsUpTo _ u t (leadingUsed-readTable p t u e))

@@ -1,10 +1,9 @@
 -- On a judged table the view of the bytes is the view of the messages, and so are stores.
 --     PlaceCase, placeCase     the three places: the first where an equal message stands, or the first unused slot, or no room
 --     view-holds, view-judged  the two views agree, where the table holds messages, and where it was judged
---     leading-used, -unused, -end     the messages from a place on, as a loop meets them
 --     Sent, send-sent          an accepted send: the first slot where the message stands, and what the table then holds
 --     send-full                a send without room: the message is absent and every slot is used
---     send-absent, send-absent-full     on any bytes: a message that is absent goes after the leading ones, or has no room
+--     send-absent, send-absent-full     on any bytes: a message that is absent goes after the messages there, or has no room
 -- Assumes nothing.
 use Prim.Native.Nat.{ℕ, zero, suc, _+_, _-_, _/_, _≤_, _<_}
 use mathlib.Core.Bool.{Bool, true, false, cond, false≢true}
@@ -12,32 +11,28 @@ use mathlib.Core.List.{List, [], _∷_, _++_, map}
 use mathlib.Core.Logic.{_⊎_, inl, inr}
 use mathlib.Core.Path.{_≡_, refl, sym, _∙_, ap, subst₂, fun-ext}
 use native.Mathlib.Nat.{add-zero, zero-add, le-of-suc-le-suc, not-suc-le-zero}
-use native.Mathlib.Numerals.{add-one}
 use native.Mathlib.Omega.{arith}
-use lib.Dec.{ltb, eqb}
-use lib.ListN.{length, getD, drop, replicate, length-map, drop-of-length-le}
-use lib.Seq.{drop-cons}
-use borrow.Author.Tests.{ltb-true, ltb-false}
+use lib.Dec.{ltb}
+use lib.ListN.{length, length-map}
+use borrow.Author.Tests.{lt-ltb, le-ltb, ltb-true, ltb-false}
 use Rattle.message.specs.declared.Plan.{Plan}
 use Rattle.message.specs.declared.Message.{Message}
 use Rattle.message.specs.Outcome.{accepted}
-use Rattle.message.specs.Plan.{isPlan}
 use Rattle.message.specs.Form.{slotOf, decode, isInRange}
 use Rattle.message.specs.Form.Laws.{decode-slotOf}
-use Rattle.slots.specs.Table.{Unused, Used, slotSize, isTableLength, slots, isTable, sameBytes}
+use Rattle.slots.specs.Table.{slotSize, isTableLength, isTable, sameBytes}
 use Rattle.slots.specs.declared.Place.{Place}
 use Rattle.slots.specs.declared.Place.the-variants.{At, Free, Full}
 use Rattle.slots.specs.Table.Holds.{Holds, holds-judged}
-use Rattle.slots.specs.Table.Laws.{length-slots}
-use Rattle.slots.specs.Table.Scan.{peekSlot, peekTable, locateFrom, locate}
+use Rattle.slots.specs.Table.Scan.{slotsHeld, peekMessages, locateFrom, locate}
 use Rattle.slots.specs.Table.Scan.Laws.{sameBytes-true, sameBytes-refl}
 use Rattle.slots.specs.Send.{sameMessage, placeFrom, placeIn, messageAt}
-use Rattle.slots.specs.Send.Laws.{read-holds, peek-table, locate-holds, store-holds}
+use Rattle.slots.specs.Send.Laws.{peek-holds, messages-holds, locate-holds, store-holds}
 use Rattle.slots.specs.declared.Store.{Store}
 use Rattle.slots.specs.declared.Store.the-variants.{Keep, Put}
 use Rattle.slots.specs.declared.Send.the-variants.{Slot, NoRoom}
 use Rattle.slots.specs.View.{viewMessages, viewTable, sendOf, storeBytes, storeMessages}
-use Rattle.slots.specs.View.Bytes.{viewBytes, leadingMessages}
+use Rattle.slots.specs.View.Bytes.{viewBytes}
 
 pub sameMessage-true : (p : Plan) (m m′ : Message) → sameMessage p m m′ ≡ true → m ≡ m′
 unfolding sameMessage
@@ -95,45 +90,17 @@ placeCase p j room (x ∷ ms) m = go (sameMessage p x m) refl (placeCase p (suc 
     go true e r = at j 0 (sym (add-zero j)) (ap accepted (sameMessage-true p x m e)) (λ i h f. absurd (not-suc-le-zero h))
     go false e r = place-cons p j room x ms m e _ r
 
--- the messages from a place on, as a loop meets them
-module _ (t : List ℕ) (k : ℕ) where
-  length-peekTable : length (peekTable t) ≡ length t / slotSize
-  unfolding peekTable
-  length-peekTable = length-map (slots t) peekSlot ∙ length-slots t
-
-  module _ (h : k < length t / slotSize) where
-    peek-cons : drop k (peekTable t) ≡ getD (peekTable t) k Unused ∷ drop (suc k) (peekTable t)
-    peek-cons = drop-cons (peekTable t) k Unused (rw length-peekTable h)
-
-    pub leading-used : (m : Message) → getD (peekTable t) k Unused ≡ Used m → leadingMessages (drop k (peekTable t)) ≡ m ∷ leadingMessages (drop (k + 1) (peekTable t))
-    unfolding leadingMessages
-    leading-used m e = rw (peek-cons, e, add-one)
-
-    pub leading-unused : getD (peekTable t) k Unused ≡ Unused → leadingMessages (drop k (peekTable t)) ≡ []
-    unfolding leadingMessages
-    leading-unused e = rw (peek-cons, e)
-
-  pub leading-end : length t / slotSize ≤ k → leadingMessages (drop k (peekTable t)) ≡ []
-  unfolding leadingMessages
-  leading-end h = rw (drop-of-length-le (peekTable t) {i = k} (rw length-peekTable h))
-
-leading-holding : (ms : List Message) (k : ℕ) → leadingMessages (map Used ms ++ replicate k Unused) ≡ ms
-unfolding leadingMessages
-leading-holding [] zero = refl
-leading-holding [] (suc k) = refl
-leading-holding (m ∷ ms) k = ap (λ (r : List Message). m ∷ r) (leading-holding ms k)
-
 module _ (p : Plan) (room : ℕ) (ms : List Message) (t : List ℕ) (h : Holds p room ms t) where
-  pub view-holds : isPlan p ≡ true → viewBytes p t ≡ viewMessages p room ms
-  view-holds plan i =
+  pub view-holds : viewBytes p t ≡ viewMessages p room ms
+  view-holds i =
       record {
-        slot = fun-ext (read-holds p room ms t h plan) i;
-        messages = (ap leadingMessages (peek-table p room ms t h) ∙ leading-holding ms (room - length ms)) i;
+        slot = fun-ext (peek-holds p room ms t h) i;
+        messages = messages-holds p room ms t h i;
         send = fun-ext (λ (m : Message). ap (λ (q : Place). sendOf q m) (locate-holds p room ms t h m)) i;
       }
 
-pub view-judged : (p : Plan) (t : List ℕ) → isPlan p ≡ true → isTableLength (length t) ≡ true → isTable p t ≡ true → viewBytes p t ≡ viewTable p t
-view-judged p t plan l o = view-holds p _ _ t (holds-judged p t l o) plan
+pub view-judged : (p : Plan) (t : List ℕ) → isTableLength (length t) ≡ true → isTable p t ≡ true → viewBytes p t ≡ viewTable p t
+view-judged p t l o = view-holds p _ _ t (holds-judged p t l o)
 
 -- what an accepted send leaves
 pub record Sent (p : Plan) (room : ℕ) (ms : List Message) (m : Message) (slot : ℕ) (store : Store) : Type 0 where
@@ -187,39 +154,28 @@ send-full p room ms m e = go (placeFrom p 0 room ms m) (placeCase p 0 room ms m)
     go q (free i n s a) e = absurd (let z : _≡_ {A = ℕ} 0 1 = cc in omega arith)
     go q (full s a) e = (omega arith, a)
 
--- of `room` slots, counted from `j`, the place after the first `used`
-record After (j used room : ℕ) (q : Place) : Type 0 where
-  free : used < room → q ≡ Free (j + used)
-  full : room ≤ used → q ≡ Full
-
--- looking for a message that is absent up to the first unused slot
-locate-absent : (p : Plan) (m : Message) (ss : List (List ℕ)) (j : ℕ) → Absent (leadingMessages (map peekSlot ss)) m
-    → After j (length (leadingMessages (map peekSlot ss))) (length ss) (locateFrom j ss (slotOf p m))
-unfolding locateFrom leadingMessages peekSlot messageAt
-locate-absent p m [] j a = record { free = λ h. absurd (not-suc-le-zero h); full = λ h. refl }
-locate-absent p m (s ∷ ss) j a = go (eqb (getD s 0 0) 0) (sameBytes s (slotOf p m)) refl (locate-absent p m ss (suc j)) a
+-- looking for a message that is absent: the place after the slots
+locate-absent : (p : Plan) (m : Message) (room : ℕ) (ss : List (List ℕ)) (j : ℕ) → Absent (map decode ss) m
+    → locateFrom j room ss (slotOf p m) ≡ cond (ltb (j + length ss) room) (Free (j + length ss)) Full
+unfolding locateFrom messageAt
+locate-absent p m room [] j a = rw add-zero
+locate-absent p m room (s ∷ ss) j a = go (sameBytes s (slotOf p m)) refl (locate-absent p m room ss (suc j) (λ k. a (suc k)))
   where
-    go : (z b : Bool) → sameBytes s (slotOf p m) ≡ b
-        → (Absent (leadingMessages (map peekSlot ss)) m → After (suc j) (length (leadingMessages (map peekSlot ss))) (length ss) (locateFrom (suc j) ss (slotOf p m)))
-        → Absent (leadingMessages (cond z Unused (Used (decode s)) ∷ map peekSlot ss)) m
-        → After j (length (leadingMessages (cond z Unused (Used (decode s)) ∷ map peekSlot ss))) (suc (length ss))
-        (cond z (Free j) (cond b (At j) (locateFrom (suc j) ss (slotOf p m))))
-    go true b e rest a = record { free = λ h. ap Free (sym (add-zero j)); full = λ h. absurd (not-suc-le-zero h) }
-    go false true e rest a = absurd (a 0 (ap accepted (ap decode (sameBytes-true s (slotOf p m) e) ∙ decode-slotOf p m)))
-    go false false e rest a =
-        let r = rest (λ k. a (suc k)) in
-        record { free = λ h. r .free (le-of-suc-le-suc h) ∙ ap Free (omega arith); full = λ h. r .full (le-of-suc-le-suc h) }
+    go : (b : Bool) → sameBytes s (slotOf p m) ≡ b → locateFrom (suc j) room ss (slotOf p m) ≡ cond (ltb (suc j + length ss) room) (Free (suc j + length ss)) Full
+        → cond b (At j) (locateFrom (suc j) room ss (slotOf p m)) ≡ cond (ltb (j + suc (length ss)) room) (Free (j + suc (length ss))) Full
+    go true e rest = absurd (a 0 (ap accepted (ap decode (sameBytes-true s (slotOf p m) e) ∙ decode-slotOf p m)))
+    go false e rest = rest ∙ ap (λ (n : ℕ). cond (ltb n room) (Free n) Full) (omega arith)
 
 -- on any bytes: a message that is absent is appended to the messages there, where there is room
 module _ (p : Plan) (t : List ℕ) (m : Message) (a : Absent (viewBytes p t .messages) m) (used : ℕ) (count : used ≡ length (viewBytes p t .messages)) where
-  after-leading : After 0 used (length t / slotSize) (locate t (slotOf p m))
-  unfolding locate peekTable
-  after-leading =
-      subst₂ (λ (n room : ℕ). After 0 n room (locate t (slotOf p m))) (sym count) (length-slots t)
-      (locate-absent p m (slots t) 0 a)
+  after-messages : locate t (slotOf p m) ≡ cond (ltb used (length t / slotSize)) (Free used) Full
+  unfolding locate peekMessages
+  after-messages =
+      locate-absent p m (length t / slotSize) (slotsHeld t) 0 a
+      ∙ ap (λ (n : ℕ). cond (ltb n (length t / slotSize)) (Free n) Full) (zero-add _ ∙ sym (count ∙ length-map (slotsHeld t) decode))
 
   pub send-absent : used < length t / slotSize → viewBytes p t .send m ≡ Slot used (Put used m)
-  send-absent h = ap (λ (q : Place). sendOf q m) (after-leading .free h ∙ ap Free (zero-add used))
+  send-absent h = ap (λ (q : Place). sendOf q m) after-messages ∙ rw (lt-ltb _ _ h)
 
   pub send-absent-full : length t / slotSize ≤ used → viewBytes p t .send m ≡ NoRoom
-  send-absent-full h = ap (λ (q : Place). sendOf q m) (after-leading .full h)
+  send-absent-full h = ap (λ (q : Place). sendOf q m) after-messages ∙ rw (le-ltb _ _ h)

@@ -1,9 +1,10 @@
 -- `tables::is_table_within` meets its contract: slots before the edge are used, and the bytes from it on are zeros; all are where the first
 -- byte is 0. Assumes nothing.
 use mathlib.Core.Path.{sym, _∙_}
+use native.Mathlib.Omega.{arith}
 use borrow.Author.Needs.{needs}
 use Rattle.message.proofs.Guards.{passed, failed}
-use Rattle.tables.specs.Tables.Edge.{edge-bad, edge-good}
+use Rattle.tables.specs.Tables.Edge.{edge-in, edge-bad, edge-good}
 use Rattle.tables.proofs.Forms.{first-zero}
 use Rattle.tables.proofs.is_table_within.Statement.{statement}
 use Rattle.tables.proofs.is_table_within.Tie as tie
@@ -23,25 +24,25 @@ edge-requires : tie.Need-edge-requires
 edge-requires c κs = tt
 
 are-forms-requires : tie.Need-are-forms-requires
-are-forms-requires c κs = (c .before .before .before .before .pre, c .edge .ensures .0 .within)
+are-forms-requires c κs = (c .before .before .before .before .pre, edge-in _ _ (c .edge .ensures))
 
 returns-2 : tie.Need-returns-2
 returns-2 c =
     let at-forms = c .before in
     let at-edge = at-forms .before in
-    edge-bad _ _ _ (at-edge .edge .ensures .0) (at-edge .edge .ensures .1) (failed (at-forms .are-forms .ensures) (c .if2 .taken))
+    edge-bad _ _ _ (at-edge .edge .ensures) (failed (at-forms .are-forms .ensures) (c .if2 .taken))
 
 mul-is-zero : tie.Need-mul-is-zero
-mul-is-zero c = search needs
+mul-is-zero c = omega (arith, edge-in _ _ (c .before .before .edge .ensures))
 
 mul-is-zero-2 : tie.Need-mul-is-zero-2
 mul-is-zero-2 c = search needs
 
 sub-is-zero : tie.Need-sub-is-zero
-sub-is-zero c = search needs
+sub-is-zero c = omega (arith, edge-in _ _ (c .before .before .edge .ensures))
 
 part-is-zero-start : tie.Need-part-is-zero-start
-part-is-zero-start c = search needs
+part-is-zero-start c = omega (arith, edge-in _ _ (c .before .before .edge .ensures))
 
 part-is-zero-end : tie.Need-part-is-zero-end
 part-is-zero-end c = search needs
@@ -54,7 +55,7 @@ returns-3 c =
     let at-if = c .before .before in
     let at-edge = at-if .before .before in
     c .is-zero .ensures
-    ∙ sym (edge-good _ _ _ (at-edge .edge .ensures .0) (at-edge .edge .ensures .1) (passed (at-if .before .are-forms .ensures) (at-if .if2 .left)))
+    ∙ sym (edge-good _ _ _ (at-edge .edge .ensures) (passed (at-if .before .are-forms .ensures) (at-if .if2 .left)))
 
 pub is-table-within-spec : {M : Type 1} → statement M
 is-table-within-spec =

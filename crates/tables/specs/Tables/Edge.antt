@@ -1,8 +1,7 @@
 -- Where the used slots of a table end, seen from the first bytes of its slots.
 --     isUsed, usedAt, areUsed      a slot that holds a message; the slot at a place; the first slots
---     Reached, Edge                a place up to which slots may be used, and no used slot a step further
 --     unknown-unused               a slot that begins with no map is not used
---     edge-bad, edge-good          at such a place a table is well formed exactly when slots before it are used and bytes from it on are zeros
+--     edge-in, edge-bad, edge-good     the edge is within the table, and a table is well formed exactly when slots before it are used and bytes from it on are zeros
 -- Assumes nothing.
 use Prim.Native.Nat.{ℕ, zero, suc, _+_, _-_, _*_, _/_, _≤_, _<_}
 use mathlib.Core.Bool.{Bool, true, false, _&&_, cond, false≢true}
@@ -26,8 +25,9 @@ use Rattle.message.specs.Codec.Laws.{readMessage-plan, readMessage-empty}
 use Rattle.message.specs.Outcome.Laws.{both}
 use Rattle.slots.specs.All.{all}
 use Rattle.slots.specs.Table.{Slot, Unused, Used, Bad, slotSize, isZero, usedSlot, readSlot, readTable, isTable}
-use Rattle.slots.specs.Table.Scan.{leadingUsed}
-use Rattle.slots.specs.Table.Laws.{readSlot-unused, slotAt, length-readTable, leadingUsed-bound, isTable-zero}
+use Rattle.slots.specs.Table.Scan.{edge}
+use Rattle.slots.specs.Table.Edge.{Reached, edge-reached, edge-unused}
+use Rattle.slots.specs.Table.Laws.{leadingUsed, readSlot-unused, slotAt, length-readTable, leadingUsed-bound, isTable-zero}
 use Rattle.tables.specs.Tables.Each.{each, each-at, each-all}
 
 abbrev pub isUsed : Slot → Bool
@@ -40,15 +40,6 @@ usedAt p t k = isUsed (getD (readTable p t) k Unused)
 
 unfoldable pub areUsed : Plan → List ℕ → ℕ → Bool
 areUsed p t n = each (usedAt p t) 0 n
-
--- the slot before it does not begin with 0
-pub record Reached (t : List ℕ) (place : ℕ) : Type 0 where
-  pub within : place ≤ length t / slotSize
-  pub before : 0 < place → getD t ((place - 1) * slotSize) 0 ≡ 0 → ⊥
-
--- the slot a step further begins with 0
-abbrev pub Edge : List ℕ → ℕ → ℕ → Type 0
-Edge t place step = place + step ≤ length t / slotSize → getD t ((place + step - 1) * slotSize) 0 ≡ 0
 
 -- a slot whose message is refused
 refused-unused : (o : Outcome Message) (k : ℕ) → o ≡ refused k → (zeros rest : Bool) → isUsed (cond zeros Unused (usedSlot o rest)) ≡ false
@@ -89,7 +80,17 @@ zero-at [] i e = refl
 zero-at (x ∷ l) zero e = eqb-true x 0 (both (eqb x 0) (all (λ y. eqb y 0) l) e .0)
 zero-at (x ∷ l) (suc i) e = zero-at l i (both (eqb x 0) (all (λ y. eqb y 0) l) e .1)
 
-module _ (p : Plan) (t : List ℕ) (u : ℕ) (reached : Reached t u) (edge : Edge t u 1) where
+module _ (t : List ℕ) (u : ℕ) (is : u ≡ edge t) where
+  edge-before : Reached t u
+  edge-before = rw is (edge-reached t)
+
+  edge-after : u < length t / slotSize → getD t (u * slotSize) 0 ≡ 0
+  edge-after = rw is (edge-unused t)
+
+  pub edge-in : u ≤ length t / slotSize
+  edge-in = edge-before .within
+
+module _ (p : Plan) (t : List ℕ) (u : ℕ) (is : u ≡ edge t) where
   abbrev rest : ℕ → List ℕ
   rest k = take (length t / slotSize * slotSize - k * slotSize) (drop (k * slotSize) t)
 
@@ -100,7 +101,7 @@ module _ (p : Plan) (t : List ℕ) (u : ℕ) (reached : Reached t u) (edge : Edg
       ap isUsed (sym (slotAt (readSlot p) Unused (readSlot-unused p [] refl) t u h))
       ∙ unknown-unused p _ (ap mapLength (rw (add-sub-cancel-left (u * slotSize) slotSize)
       (getD-take slotSize (drop (u * slotSize) t) 0 0 (lit≤ tt) ∙ getD-drop (u * slotSize) t 0 0
-      ∙ ap (λ (k : ℕ). getD t k 0) (omega arith) ∙ edge (omega arith)))
+      ∙ ap (λ (k : ℕ). getD t k 0) (omega arith) ∙ edge-after t u is h))
       ∙ mapLength-zero)
 
   all-used : areUsed p t u ≡ true → u ≡ leadingUsed (readTable p t)
@@ -135,11 +136,11 @@ module _ (p : Plan) (t : List ℕ) (u : ℕ) (reached : Reached t u) (edge : Edg
           none : (z : Bool) → isZero (rest (leadingUsed (readTable p t))) ≡ z → z ≡ false
           none false f = refl
           none true f =
-              absurd (reached .before (omega (arith, some-unused e))
+              absurd (edge-before t u is .before (omega (arith, some-unused e))
               (ap (λ (i : ℕ). getD t i 0) (omega (arith, some-unused e))
               ∙ sym (getD-drop (leadingUsed (readTable p t) * slotSize) t ((u - 1) * slotSize - leadingUsed (readTable p t) * slotSize) 0)
               ∙ sym (getD-take (length t / slotSize * slotSize - leadingUsed (readTable p t) * slotSize) (drop (leadingUsed (readTable p t) * slotSize) t)
-              ((u - 1) * slotSize - leadingUsed (readTable p t) * slotSize) 0 (omega (arith, some-unused e, reached .within)))
+              ((u - 1) * slotSize - leadingUsed (readTable p t) * slotSize) 0 (omega (arith, some-unused e, edge-in t u is)))
               ∙ zero-at (rest (leadingUsed (readTable p t))) ((u - 1) * slotSize - leadingUsed (readTable p t) * slotSize) f))
 
   pub edge-bad : areUsed p t u ≡ false → false ≡ isTable p t

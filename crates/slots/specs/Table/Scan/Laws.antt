@@ -1,7 +1,7 @@
 -- The laws of the steps on a judged table.
---     readUsed-unused, -used                a slot by the reader
+--     peekSlot-unused, -used                a slot by its first byte
 --     sameBytes-true, -refl, -false         comparing byte by byte
---     locateFrom-free, -at, -next, -end     looking slot by slot
+--     locateFrom-at, -next, -free, -full    looking slot by slot
 --     storeAt-in, storeAt-out               the table after a store
 -- Assumes nothing.
 use Prim.Native.Nat.{ℕ, _+_, _*_, _/_, _≤_, _<_}
@@ -12,23 +12,20 @@ use native.Mathlib.Numerals.{add-one}
 use lib.ListN.{length, getD, take, drop, drop-of-length-le}
 use lib.Seq.{drop-cons}
 use borrow.Author.Tests.{eq-eqb, ne-eqb, eqb-true, lt-ltb, le-ltb}
-use Rattle.message.specs.declared.Plan.{Plan}
-use Rattle.message.specs.Outcome.{refused, refuseIf}
 use Rattle.message.specs.Outcome.Laws.{both}
-use Rattle.message.specs.Form.{mapLength}
-use Rattle.message.specs.Codec.{readMessage}
+use Rattle.message.specs.Form.{decode}
 use Rattle.slots.specs.declared.Place.the-variants.{At, Free, Full}
-use Rattle.slots.specs.Table.{slotSize, sameBytes, storeAt}
-use Rattle.slots.specs.Table.Scan.{readUsed, locateFrom}
+use Rattle.slots.specs.Table.{Unused, Used, slotSize, sameBytes, storeAt}
+use Rattle.slots.specs.Table.Scan.{peekSlot, locateFrom}
 
-module _ (p : Plan) (s : List ℕ) where
-  pub readUsed-unused : getD s 0 0 ≡ 0 → readUsed p s ≡ refused 8
-  unfolding readUsed refuseIf
-  readUsed-unused e = rw (eq-eqb _ _ e)
+module _ (s : List ℕ) where
+  pub peekSlot-unused : getD s 0 0 ≡ 0 → peekSlot s ≡ Unused
+  unfolding peekSlot
+  peekSlot-unused e = rw (eq-eqb _ _ e)
 
-  pub readUsed-used : (getD s 0 0 ≡ 0 → ⊥) → readUsed p s ≡ readMessage p (take (mapLength (getD s 0 0)) s)
-  unfolding readUsed refuseIf
-  readUsed-used n = rw (ne-eqb _ _ n)
+  pub peekSlot-used : (getD s 0 0 ≡ 0 → ⊥) → peekSlot s ≡ Used (decode s)
+  unfolding peekSlot
+  peekSlot-used n = rw (ne-eqb _ _ n)
 
 pub sameBytes-true : (a b : List ℕ) → sameBytes a b ≡ true → a ≡ b
 unfolding sameBytes
@@ -51,22 +48,22 @@ sameBytes-false a b n = go (sameBytes a b) refl
     go false e = e
 
 -- one slot further
-module _ (ss : List (List ℕ)) (form : List ℕ) (k : ℕ) (h : k < length ss) where
-  pub locateFrom-free : getD (getD ss k []) 0 0 ≡ 0 → locateFrom k (drop k ss) form ≡ Free k
+module _ (room : ℕ) (ss : List (List ℕ)) (form : List ℕ) (k : ℕ) where
+  pub locateFrom-at : k < length ss → sameBytes (getD ss k []) form ≡ true → locateFrom k room (drop k ss) form ≡ At k
   unfolding locateFrom
-  locateFrom-free e = rw (drop-cons ss k [] h, eq-eqb _ _ e)
+  locateFrom-at h e = rw (drop-cons ss k [] h, e)
 
-  pub locateFrom-at : (getD (getD ss k []) 0 0 ≡ 0 → ⊥) → sameBytes (getD ss k []) form ≡ true → locateFrom k (drop k ss) form ≡ At k
+  pub locateFrom-next : k < length ss → sameBytes (getD ss k []) form ≡ false → locateFrom (k + 1) room (drop (k + 1) ss) form ≡ locateFrom k room (drop k ss) form
   unfolding locateFrom
-  locateFrom-at n e = rw (drop-cons ss k [] h, ne-eqb _ _ n, e)
+  locateFrom-next h e = rw (drop-cons ss k [] h, e, add-one)
 
-  pub locateFrom-next : (getD (getD ss k []) 0 0 ≡ 0 → ⊥) → sameBytes (getD ss k []) form ≡ false → locateFrom (k + 1) (drop (k + 1) ss) form ≡ locateFrom k (drop k ss) form
+  pub locateFrom-free : length ss ≤ k → k < room → locateFrom k room (drop k ss) form ≡ Free k
   unfolding locateFrom
-  locateFrom-next n e = rw (drop-cons ss k [] h, ne-eqb _ _ n, e, add-one)
+  locateFrom-free h r = rw (drop-of-length-le ss h, lt-ltb k room r)
 
-pub locateFrom-end : (ss : List (List ℕ)) (form : List ℕ) (k : ℕ) → length ss ≤ k → locateFrom k (drop k ss) form ≡ Full
-unfolding locateFrom
-locateFrom-end ss form k h = rw (drop-of-length-le ss h)
+  pub locateFrom-full : length ss ≤ k → room ≤ k → locateFrom k room (drop k ss) form ≡ Full
+  unfolding locateFrom
+  locateFrom-full h r = rw (drop-of-length-le ss h, le-ltb k room r)
 
 module _ (t : List ℕ) (k : ℕ) (form : List ℕ) where
   pub storeAt-in : k < length t / slotSize → storeAt t k form ≡ take (k * slotSize) t ++ (form ++ drop (k * slotSize + slotSize) t)

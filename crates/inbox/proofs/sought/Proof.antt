@@ -1,8 +1,8 @@
--- `inbox::unsought` meets its contract: a word that passes both tests is answered as it is. Assumes nothing.
+-- `inbox::sought` meets its contract: only a word that fails both tests is answered by 0. Assumes nothing.
 use borrow.Author.Needs.{needs}
 use Rattle.inbox.proofs.Skipping.{passed-word}
-use Rattle.inbox.proofs.unsought.Statement.{statement}
-use Rattle.inbox.proofs.unsought.Tie as tie
+use Rattle.inbox.proofs.sought.Statement.{statement}
+use Rattle.inbox.proofs.sought.Tie as tie
 
 mul-word-from : tie.Need-mul-word-from
 mul-word-from c = search needs
@@ -23,14 +23,14 @@ returns-2 : tie.Need-returns-2
 returns-2 c = search needs
 
 returns-3 : tie.Need-returns-3
-returns-3 c =
+returns-3 c none =
     let of-2a = c .before in
     let no-1b = of-2a .before in
     let of-1b = no-1b .before in
     passed-word _ _ _ _ _ _ _ (of-1b .before .word-from .ensures) (of-1b .word .ensures) (of-2a .word2 .ensures) (no-1b .if1 .left) (c .if2 .left)
 
-pub unsought-spec : {M : Type 1} → statement M
-unsought-spec =
+pub sought-spec : {M : Type 1} → statement M
+sought-spec =
     tie.close
     (tie.spec
     mul-word-from
