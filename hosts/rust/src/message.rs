@@ -7,6 +7,7 @@ use crate::answer::refused;
 use crate::plan::SLOT;
 #[cfg(any(feature = "message", feature = "deliver"))]
 use crate::{Plan, Refusal, ffi};
+use core::num::NonZeroU8;
 use core::ops::Deref;
 
 /// A value of an instance: what a 2a proposes, and what a 1b or 2b says was voted for. No weight's [`State`], in which 2
@@ -107,10 +108,11 @@ impl From<Message> for Fields {
 }
 
 /// The byte form of a message. It derefs to the message's bytes, four to eight; as a slot it is followed by zeros.
+// Since the length is never 0, a `Result` of it has no tag of its own and is copied as it was stored.
 #[derive(Clone, Copy, Debug, PartialEq, Eq, Hash)]
 pub struct Written {
     slot: [u8; SLOT],
-    len: u8,
+    len: NonZeroU8,
 }
 
 impl Written {
@@ -123,7 +125,7 @@ impl Written {
 impl Deref for Written {
     type Target = [u8];
     fn deref(&self) -> &[u8] {
-        &self.slot[..usize::from(self.len)]
+        &self.slot[..usize::from(self.len.get())]
     }
 }
 
@@ -155,9 +157,9 @@ impl Fields {
         match ffi::write(plan, [map, ins, acc, mbal, bal, val]) {
             [0, number, ..] => Err(refused(number.into())),
             // The slot begins with this map.
-            slot => match ffi::length(map) {
-                len @ 1..=8 => Ok(Written { slot, len: len as u8 }),
-                _ => outside(),
+            slot => match NonZeroU8::new(ffi::length(map) as u8) {
+                Some(len) => Ok(Written { slot, len }),
+                None => outside(),
             },
         }
     }
