@@ -205,7 +205,8 @@ pub refusals :
     × (on (2 ∷ []) (0 ∷ 0 ∷ 0 ∷ []) (0x30 ∷ 2 ∷ 1 ∷ 2 ∷ 0 ∷ 0 ∷ 0 ∷ 0 ∷ []) unused (2 ∷ 0 ∷ 0 ∷ 0 ∷ []) ≡ refused 11)
     × (on (1 ∷ []) (0 ∷ 0 ∷ 0 ∷ []) unused unused (0 ∷ 0 ∷ 0 ∷ 0 ∷ []) ≡ refused 12)
     × (on (0 ∷ []) (0 ∷ 0 ∷ 0 ∷ []) (0x30 ∷ 2 ∷ 1 ∷ 2 ∷ 0 ∷ 0 ∷ 0 ∷ 0 ∷ []) unused (0 ∷ 0 ∷ 0 ∷ 0 ∷ []) ≡ refused 13)
-    × (on (0 ∷ []) (0 ∷ 0 ∷ 0 ∷ []) (0x27 ∷ 0 ∷ 0 ∷ 1 ∷ 1 ∷ 2 ∷ 0 ∷ 0 ∷ []) (0x27 ∷ 0 ∷ 0 ∷ 2 ∷ 1 ∷ 2 ∷ 0 ∷ 0 ∷ []) (4 ∷ 0 ∷ 0 ∷ 0 ∷ []) ≡ refused 14)
+    × (on (0 ∷ []) (0 ∷ 0 ∷ 0 ∷ []) (0x27 ∷ 0 ∷ 0 ∷ 1 ∷ 1 ∷ 2 ∷ 0 ∷ 0 ∷ []) (0x27 ∷ 0 ∷ 0 ∷ 2 ∷ 1 ∷ 2 ∷ 0 ∷ 0 ∷ []) (4 ∷ 0 ∷ 0 ∷ 0 ∷ [])
+    ≡ refused 14)
 unfolding readMessage andThen refuseIf isPlan isCount isValue isVote isInRange bytesOf bytesOf1b messageLength slotOf mapLength isKnown ones
     fieldsMessage decode hasOrder all isTableLength slotsUpTo slots isZero readSlot readTable allUnused isOrdered isTable usedMessages
     messages sameBytes storeAt sameMessage placeFrom placeIn messageAt sending slotNumber whoLimit areZero areArguments isEvent

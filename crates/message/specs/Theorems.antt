@@ -42,7 +42,7 @@ use Rattle.message.specs.Outcome.{Outcome, accepted, refused}
 use Rattle.message.specs.Plan.{isPlan}
 use Rattle.message.specs.Form.{slotSize, bytesOf, bytesOf1b, orderBytes, isKnown, mapLength, decode, isInRange, hasOrder}
 use Rattle.message.specs.Form.Laws.{messageCases, decode-bytesOf, bytesOf-order, hasOrder-bytes, hasOrder-other}
-use Rattle.message.specs.Form.Laws.{knownMap, mapLength-known, mapLength-none, mapLength-unknown, mapLength-bytesOf}
+use Rattle.message.specs.Form.Laws.{knownMap, known-some, mapLength-none, mapLength-unknown, mapLength-bytesOf}
 use Rattle.message.specs.Codec.{readMessage, writeMessage}
 use Rattle.message.specs.Rows.{Rows, end, row, here, below, Applies, Lowest}
 use Rattle.message.specs.Rows.Laws.{isAscending, lowest-of-ruled}
@@ -226,8 +226,7 @@ map-ones map known =
     (omega arith, refl)
     (omega arith, refl)
     (omega arith, refl)
-    map
-    (λ none. let some : 2 + ones map ≡ 0 = sym (mapLength-known map known) ∙ none in omega arith)
+    map (known-some map known)
 
 -- "an unknown map still has 0"
 pub map-none : (map : ℕ) → isKnown map ≡ false → mapLength map ≡ 0

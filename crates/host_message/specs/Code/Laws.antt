@@ -25,10 +25,10 @@ module _ (p : Plan) (map ins acc mbal bal val : ℕ) where
   unfolding hostWrite writtenCode refuseIf messageOf
   hostWrite-unknown plan unknown = rw (plan, unknown)
 
-  pub hostWrite-message : isPlan p ≡ true → isKnown map ≡ true → (m : Message) → messageWith map ins acc mbal bal val ≡ m
+  pub hostWrite-message : isPlan p ≡ true → isKnown map ≡ true → (k : ℕ) (m : Message) → map ≡ k → messageWith k ins acc mbal bal val ≡ m
       → writtenCode (writeMessage p m) ≡ writtenCode (hostWrite p map ins acc mbal bal val)
   unfolding hostWrite refuseIf messageOf
-  hostWrite-message plan known m is = rw (plan, known, is)
+  hostWrite-message plan known k m is made = rw (plan, known, is, made)
 
 -- the number by cases
 pub written-refused : (w : Written) → (w .number ≡ 0 → ⊥) → 256 * w .number ≡ writtenCode w
