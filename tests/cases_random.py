@@ -18,6 +18,7 @@ from model import (
     inbox_of,
     messages,
     open_record,
+    owner,
     role_of,
     set_bytes,
 )
@@ -98,7 +99,7 @@ def random_event(rng, plan, role, network):
         places = [k for k, m in enumerate(messages(network)) if m.kind in kinds]
         return reading(kind, who, rng.choice(places) if places and rng.random() < 0.9 else rng.randrange(10))
     if kind in (5, 6):
-        owned = [b for b in range(1, 9) if b % plan[2] == who]
+        owned = [b for b in range(1, 9) if owner(Plan(*plan), b) == who]
         return proposing(kind, who, rng.randrange(plan[0]), rng.choice(owned + [rng.randrange(9)]))
     return other(kind, who)
 

@@ -131,14 +131,14 @@ def bases():
     for message, mbals in ((m1a(2, 4), (4, 5, 255)), (m2a(2, 4, PREPARED), (5, 255))):
         late = [set_at(12, "table", 21, x) for x in mbals]
         yield ACCEPTOR, votes, wanted(message), reading(3, 1, 1), slot_rows + late + send
-    inbox = slots(6, m2a(0, 1, PREPARED), m1b(1, 0, 5), m1b(1, 2, 5, (1, PREPARED)), m2b(0, 2, 0, ABORTED))
+    inbox = slots(6, m2a(0, 1, PREPARED), m1b(1, 0, 6), m1b(1, 2, 6, (1, PREPARED)), m2b(0, 2, 0, ABORTED))
     for message in (m1b(2, 1, 4), m1b(2, 1, 4, (0, PREPARED)), m2b(2, 1, 4, ABORTED)):
         yield LEADER, inbox, wanted(message), reading(4, 1, 1), slot_rows + [low(9, 2)] + full(14, "table")
-    unowned = [low(10, b) for b in (0, 1, 3, 4, 6, 7, 255)]
-    yield LEADER, inbox, wanted(m1a(1, 2)), proposing(5, 2, 1, 5), unowned + send
+    unowned = [low(10, b) for b in (0, 1, 2, 4, 5, 7, 8, 254)]
+    yield LEADER, inbox, wanted(m1a(1, 2)), proposing(5, 2, 1, 6), unowned + send
     disabled = [set_at(12, "table", SLOT * place, *slot) for place, slot in (
-        (1, m1b(1, 0, 4)), (1, m1b(0, 0, 5)), (1, m1b(1, 2, 5)), (1, m2a(1, 5, ABORTED)), (3, m2a(1, 5, PREPARED)))]
-    yield LEADER, inbox, wanted(m1a(1, 2)), proposing(6, 2, 1, 5), unowned + disabled + send + full(14, "table")
+        (1, m1b(1, 0, 5)), (1, m1b(0, 0, 6)), (1, m1b(1, 2, 6)), (1, m2a(1, 6, ABORTED)), (3, m2a(1, 6, PREPARED)))]
+    yield LEADER, inbox, wanted(m1a(1, 2)), proposing(6, 2, 1, 6), unowned + disabled + send + full(14, "table")
     for kind, value, instances in ((7, PREPARED, 3), (8, ABORTED, 1)):
         votes = [m2b(i, a, 1, value) for i in range(instances) for a in (0, 2)]
         few = (m2b(0, 0, 1, 3 - value), m2b(0, 0, 2, value), m2b(0, 2, 1, value), m1a(0, 1))
@@ -214,7 +214,7 @@ def plans():
         last = lambda count: max(0, count - 1)
         call("plan", RM, plan, bytes(n), slots(1), other(0, last(n)), number)
         call("plan", ACCEPTOR, plan, bytes(3 * n * a), slots(2, m2a(0, 0, ABORTED)), reading(3, last(a), 0), number)
-        call("plan", LEADER, plan, slots(1), slots(1), proposing(5, last(l), last(n), 7), number)
+        call("plan", LEADER, plan, slots(1), slots(1), proposing(5, last(l), last(n), 8), number)
 
 
 SECTIONS = [examples, refusals, events, plans]

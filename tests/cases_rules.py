@@ -49,7 +49,7 @@ def ownership():
     for l in range(1, 5):
         for who in range(l):
             for b in (0, 1, 2, 3, 4, 5, 6, 7, 12, 254, 255):
-                number = 0 if b > 0 and b % l == who else 10
+                number = 0 if b > 0 and (b - 1) % l == who else 10
                 call("ownership", LEADER, (1, 1, l), slots(0), slots(1), proposing(5, who, 0, b), number)
                 # kind 6 with a majority, without one, and with its 2a in the inbox already: 10 comes before 12
                 disabled = 12 if number == 0 else 10
@@ -65,7 +65,7 @@ def proposals():
             repeated = quorum + [m1b(0, 3 % a, 6, (2, PREPARED))] * (count > 0) + quorum[:1]
             for inbox in (quorum, repeated):
                 call("%d of %d acceptors" % (count, a), LEADER, (2, a, 2), slots(len(inbox) + 1, *inbox), slots(1),
-                     proposing(6, 0, 0, 6), 0 if 2 * count > a else 12)
+                     proposing(6, 1, 0, 6), 0 if 2 * count > a else 12)
 
     # instance 1, ballot 9, three acceptors: the inbox, and the value that is proposed (0: not enabled)
     none = lambda a: m1b(1, a, 9)
@@ -116,7 +116,7 @@ def proposals():
             ([decision(2), none(0), m1a(1, 9), vote(2, 0, 1), m2b(1, 0, 0, 2), m2a(1, 0, 1)], 1)]:
         for spare in (0, 2):
             network = slots(2, m2a(1, 9, 3 - value) if value else m1a(1, 9))
-            outcome = call("proposal", LEADER, (2, 3, 2), slots(len(inbox) + spare, *inbox), network, proposing(6, 1, 1, 9),
+            outcome = call("proposal", LEADER, (2, 3, 2), slots(len(inbox) + spare, *inbox), network, proposing(6, 0, 1, 9),
                            12 if value == 0 else 0 if spare else 14)
             if outcome[0] == 0:
                 sent = m2a(1, 9, value)

@@ -144,13 +144,13 @@ def sends():
     for i in (0, 2):
         for word in WORDS:
             network = filled(word, m1a(i, 3), [m1a(i, 1), m1a(1, 3), m2a(i, 3, 1)])
-            twice("send 1a", LEADER, plan, slots(1, m1a(i, 3)), network, proposing(5, 1, i, 3))
+            twice("send 1a", LEADER, plan, slots(1, m1a(i, 3)), network, proposing(5, 0, i, 3))
     quorum = m1b(1, 0, 4) + m1b(1, 2, 4, (0, PREPARED))
     for word in WORDS:
         for rest in ("", "-", "s", "so--"):
             inbox = quorum + filled(rest, m2a(1, 4, 1), [m2a(1, 2, 1), m2a(0, 4, 1)])
             network = filled(word, m2a(1, 4, 1), [m2a(1, 4, 2), m2a(1, 2, 1), m2a(0, 4, 1)])
-            twice("send 2a", LEADER, plan, inbox, network, proposing(6, 0, 1, 4))
+            twice("send 2a", LEADER, plan, inbox, network, proposing(6, 1, 1, 4))
     for kind, v in ((7, PREPARED), (8, ABORTED)):
         inbox = b"".join(m2b(i, a, 0, v) for i in range(3) for a in (0, 1))
         for word in WORDS:

@@ -34,6 +34,7 @@ from model import (
     Record,
     event_call,
     open_record,
+    owner,
     plan_bytes,
     run_call,
     set_bytes,
@@ -152,7 +153,7 @@ def quick_event(rng, plan, kinds, ballots):
         return reading(kind, who, rng.choice(recent) if recent and rng.random() < 0.95 else rng.randrange(len(kinds) + 2))
     if kind in (5, 6):
         ballot = rng.randint(1, ballots)
-        return proposing(kind, ballot % l if rng.random() < 0.95 else rng.randrange(l), rng.randrange(n), ballot)
+        return proposing(kind, owner(plan, ballot) if rng.random() < 0.95 else rng.randrange(l), rng.randrange(n), ballot)
     return other(kind, rng.randrange(n if kind < 2 else l))
 
 
@@ -271,7 +272,7 @@ PLAN = Plan(2, 3, 2)
 NETWORK = slots(6, m2a(0, 0, 1), m1a(1, 2), m2b(0, 1, 0, 1), decision(1), decision(2))
 INBOXES = slots(3, m1b(0, 0, 1), m1b(0, 1, 1, (0, 1))) + slots(3, m1b(1, 2, 2), m2b(0, 0, 0, 1))
 SOUND = Record(bytes([1, 0]), bytes([0, 0, 0, 1, 0, 1, 2, 0, 0, 0, 0, 0, 4, 3, 2, 0, 0, 0]), NETWORK, INBOXES)
-GOOD = [other(0, 1), other(1, 1), reading(2, 0, 3), reading(3, 0, 0), reading(4, 1, 2), proposing(5, 1, 0, 3), proposing(6, 1, 0, 1)]
+GOOD = [other(0, 1), other(1, 1), reading(2, 0, 3), reading(3, 0, 0), reading(4, 1, 2), proposing(5, 1, 0, 4), proposing(6, 0, 0, 1)]
 BAD = [b"", b"\0", bytes([9, 0, 0, 0]), bytes([0, 2, 0, 0]), bytes([3, 3, 0, 0]), bytes([4, 2, 0, 0]), bytes([5, 1, 2, 1]),
        bytes([7, 0, 0, 1]), bytes([0, 0, 1, 0]), bytes([0, 0, 0, 0, 0])]
 
@@ -331,25 +332,25 @@ def later_rows():
     given("8", SOUND, *((reading(kind, 0, slot), 8) for kind in (2, 3, 4) for slot in (5, 6, 256, 65535)))
     given("9", SOUND, (reading(2, 0, 0), 9), (reading(2, 0, 1), 9), (reading(3, 0, 2), 9), (reading(3, 0, 3), 9),
           (reading(4, 0, 0), 9), (reading(4, 0, 1), 9), (reading(4, 0, 4), 9))
-    given("10", SOUND, *((proposing(kind, who, 0, ballot), 10) for kind in (5, 6) for who, ballot in ((0, 0), (0, 1), (1, 2), (1, 0))))
+    given("10", SOUND, *((proposing(kind, who, 0, ballot), 10) for kind in (5, 6) for who, ballot in ((0, 0), (0, 2), (1, 1), (1, 0))))
     for first, second in ((x, y) for x in range(4) for y in range(4)):
         for who, state in enumerate((first, second)):
             given("11", with_(states=bytes([first, second])), (reading(2, who, 3), 11 if state in (0, 3) else 0),
                   (reading(2, who, 4), 11 if state == 2 else 0))
-    given("12", SOUND, (other(0, 0), 12), (other(1, 0), 12), (proposing(6, 0, 1, 2), 12), (other(7, 0), 12), (other(8, 0), 12))
-    given("13", full, (other(0, 1), 13), (other(1, 1), 13), (proposing(5, 1, 0, 3), 13), (proposing(5, 0, 1, 2), 0))
+    given("12", SOUND, (other(0, 0), 12), (other(1, 0), 12), (proposing(6, 1, 1, 2), 12), (other(7, 0), 12), (other(8, 0), 12))
+    given("13", full, (other(0, 1), 13), (other(1, 1), 13), (proposing(5, 0, 0, 3), 13), (proposing(5, 1, 1, 2), 0))
     given("14", closed, (reading(4, 0, 2), 14), (reading(4, 1, 2), 14))
     # two numbers at once: the lowest
-    given("12 and 13", full, (other(0, 0), 12), (other(7, 0), 12), (proposing(6, 0, 1, 2), 12))
-    given("10 and 12", SOUND, (proposing(6, 0, 1, 1), 10), (proposing(6, 1, 1, 2), 10))
-    given("10 and 13", full, (proposing(5, 0, 0, 3), 10))
+    given("12 and 13", full, (other(0, 0), 12), (other(7, 0), 12), (proposing(6, 1, 1, 2), 12))
+    given("10 and 12", SOUND, (proposing(6, 1, 1, 1), 10), (proposing(6, 0, 1, 2), 10))
+    given("10 and 13", full, (proposing(5, 1, 0, 3), 10))
     given("9 and 14", closed, (reading(4, 0, 0), 9))
     # Phase2a of leader 1: its inbox is the second part of I
-    ready = slots(2, m1b(0, 0, 1), m1b(0, 1, 1, (0, 1)))
+    ready = slots(2, m1b(0, 0, 2), m1b(0, 1, 2, (0, 1)))
     for network, room, number in ((NETWORK, 1, 0), (NETWORK, 0, 14), (full.network, 1, 13), (full.network, 0, 13),
-                                  (full.network + m2a(0, 1, 1), 1, 0), (full.network + m2a(0, 1, 1), 0, 14)):
+                                  (full.network + m2a(0, 2, 1), 1, 0), (full.network + m2a(0, 2, 1), 0, 14)):
         inboxes = slots(2 + room) + ready + slots(room)
-        given("13 and 14", with_(network=network, inboxes=inboxes), (proposing(6, 1, 0, 1), number))
+        given("13 and 14", with_(network=network, inboxes=inboxes), (proposing(6, 1, 0, 2), number))
 
 
 def given_tables():
@@ -406,7 +407,7 @@ def again():
 NONE = bytes([9, 0, 0, 0])                              # no event: 7
 # On the tables SOUND each number that an event of a sound record can be answered with; N and the inbox of leader 0 get full on the way.
 MIXED = [
-    (reading(4, 0, 2), 0), (NONE, 7), (reading(2, 0, 5), 8), (reading(2, 0, 0), 9), (proposing(5, 0, 0, 1), 10), (reading(2, 1, 3), 11),
+    (reading(4, 0, 2), 0), (NONE, 7), (reading(2, 0, 5), 8), (reading(2, 0, 0), 9), (proposing(5, 1, 0, 1), 10), (reading(2, 1, 3), 11),
     (other(0, 0), 12), (reading(3, 0, 0), 0), (reading(4, 0, 5), 14), (other(0, 1), 13), (reading(2, 0, 3), 0), (reading(2, 0, 4), 11),
     (other(1, 0), 12), (bytes([0, 2, 0, 0]), 7), (reading(2, 0, 3), 0),
 ]

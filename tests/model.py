@@ -241,8 +241,13 @@ def receipt(plan, inbox, network, who, high, low):
     return None, inbox, network
 
 
+def owner(plan, ballot):
+    """The leader that owns the ballot (document 02, Paper 4): leader 0 owns ballot 1. Nobody owns ballot 0."""
+    return (ballot - 1) % plan.leaders if ballot > 0 else None
+
+
 def judge_owned(plan, leader, ballot):
-    refuse_if(not (ballot > 0 and ballot % plan.leaders == leader), 10)
+    refuse_if(owner(plan, ballot) != leader, 10)
 
 
 def is_majority(plan, acceptors):

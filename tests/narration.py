@@ -114,7 +114,7 @@ def narrate(text):
 
 
 def story():
-    """Two weights, three acceptors, two leaders. For weight 1 only one acceptor votes at ballot 0; leader 1 asks at ballot 1, and that
+    """Two weights, three acceptors, two leaders. For weight 1 only one acceptor votes at ballot 0; leader 1 asks at ballot 2, and that
     acceptor reports prepared. The order commits. All nine kinds are tried; a weight that has prepared can't abort."""
     events = [
         other(0, 0),                                    # 0: 2a weight 0
@@ -124,14 +124,14 @@ def story():
         other(1, 1),                                    # not enabled: it has prepared
         reading(3, 0, 3),                               # 4: a vote of acceptor 0 alone
         other(7, 0), other(8, 0),                       # not enabled: weight 1 is not decided, and none is aborted
-        proposing(5, 0, 1, 1),                          # ballot 1 is leader 1's
-        proposing(5, 1, 1, 1),                          # 5: 1a for weight 1, ballot 1
+        proposing(5, 1, 1, 1),                          # ballot 1 is leader 0's
+        proposing(5, 1, 1, 2),                          # 5: 1a for weight 1, ballot 2
         reading(3, 0, 5), reading(3, 2, 5),             # 6, 7: promises, one with a vote report
         reading(3, 2, 3),                               # too late: ballot 0 is behind the promise
         reading(4, 1, 6),
-        proposing(6, 1, 1, 1),                          # not enabled: one promise of three
+        proposing(6, 1, 1, 2),                          # not enabled: one promise of three
         reading(4, 1, 7),
-        proposing(6, 1, 1, 1),                          # 8: 2a weight 1 prepared at ballot 1
+        proposing(6, 1, 1, 2),                          # 8: 2a weight 1 prepared at ballot 2
         reading(3, 2, 8), reading(3, 1, 8),             # 9, 10: votes
         reading(4, 0, 9), reading(4, 0, 10),
         reading(2, 0, 0),                               # a proposal is no decision

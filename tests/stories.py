@@ -57,22 +57,22 @@ def competing():
     return plan_bytes((1, 3, 2)), [
         other(0, 0),                                    # 0: 2a, prepared at ballot 0
         reading(3, 0, 0),                               # 1: the vote of acceptor 0
-        proposing(5, 1, 0, 1),                          # 2: 1a of leader 1, ballot 1
-        reading(3, 1, 2), reading(3, 2, 2),             # 3, 4: promises to leader 1
-        reading(4, 1, 3), reading(4, 1, 4),
-        proposing(5, 0, 0, 2),                          # 5: 1a of leader 0, ballot 2
-        reading(3, 0, 5), reading(3, 1, 5),             # 6, 7: promises to leader 0, one with the vote
-        proposing(6, 1, 0, 1),                          # 8: leader 1 proposes aborted, too late
+        proposing(5, 0, 0, 1),                          # 2: 1a of leader 0, ballot 1
+        reading(3, 1, 2), reading(3, 2, 2),             # 3, 4: promises to leader 0
+        reading(4, 0, 3), reading(4, 0, 4),
+        proposing(5, 1, 0, 2),                          # 5: 1a of leader 1, ballot 2
+        reading(3, 0, 5), reading(3, 1, 5),             # 6, 7: promises to leader 1, one with the vote
+        proposing(6, 0, 0, 1),                          # 8: leader 0 proposes aborted, too late
         reading(3, 0, 8), reading(3, 1, 8),             # refused: promised to ballot 2
         reading(3, 2, 8),                               # 9: one vote is no majority
-        reading(4, 1, 9),
-        other(8, 1),
-        reading(4, 0, 6), reading(4, 0, 7),
-        proposing(6, 0, 0, 2),                          # 10: leader 0 proposes prepared
-        proposing(6, 0, 0, 2),                          # once for a ballot
+        reading(4, 0, 9),
+        other(8, 0),
+        reading(4, 1, 6), reading(4, 1, 7),
+        proposing(6, 1, 0, 2),                          # 10: leader 1 proposes prepared
+        proposing(6, 1, 0, 2),                          # once for a ballot
         reading(3, 0, 10), reading(3, 2, 10),           # 11, 12: votes
-        reading(4, 0, 11), reading(4, 0, 12),
-        other(7, 0),                                    # 13: Commit
+        reading(4, 1, 11), reading(4, 1, 12),
+        other(7, 1),                                    # 13: Commit
         reading(2, 0, 13),
     ]
 
@@ -84,9 +84,9 @@ def refusals():
         reading(2, 0, 0), reading(3, 0, 1023), reading(4, 0, 1024),                                 # 8
         other(0, 0),                                                                                # 0: 2a
         reading(2, 0, 0), reading(4, 0, 0),                                                         # 9
-        proposing(5, 0, 0, 0), proposing(5, 0, 0, 1), proposing(6, 1, 0, 2),                        # 10
-        other(0, 0), other(1, 0), proposing(6, 0, 0, 2), other(7, 0), other(8, 1),                  # 12
-        proposing(5, 0, 0, 2), reading(3, 1, 1), reading(3, 1, 1),                                  # 1, 2; 12 again
+        proposing(5, 0, 0, 0), proposing(5, 1, 0, 1), proposing(6, 0, 0, 2),                        # 10
+        other(0, 0), other(1, 0), proposing(6, 1, 0, 2), other(7, 0), other(8, 1),                  # 12
+        proposing(5, 1, 0, 2), reading(3, 1, 1), reading(3, 1, 1),                                  # 1, 2; 12 again
         reading(3, 1, 2), reading(2, 1, 1),                                                         # 9 for a 1b and a 1a
     ]
 

@@ -453,6 +453,33 @@ static void deliveries(void) {
     free(old);
 }
 
+/* ---- the ballots of each leader, and what the linked call says of them ---- */
+
+static void ballots(void) {
+    unsigned asked = 0, agreed = 0;
+    uint8_t event[PAXOS_COMMIT_EVENT], inbox[PAXOS_COMMIT_SLOT], n[PAXOS_COMMIT_SLOT];
+    for (uint8_t leaders = 1; leaders <= 4; leaders++)
+        for (uint8_t leader = 0; leader < leaders; leader++) {
+            unsigned bal = 0, count = 0, next;
+            printf("leader %u of %u:", leader, leaders);
+            for (; (next = paxos_commit_next_ballot(leaders, leader, (uint8_t)bal)) != 0; bal = next, count++)
+                if (count < 3)
+                    printf(" %u,", next);
+            printf(" ... %u, in all %u ballots\n", bal, count);
+            for (bal = 0; bal <= 255; bal++) {
+                uint32_t answer;
+                memset(n, 0, sizeof n);
+                paxos_commit_event_at_ballot(PAXOS_COMMIT_KIND_PHASE_1A, leader, 0, (uint8_t)bal, event);
+                answer = paxos_commit_leader_step(1, 1, leaders, ORDER, inbox, 0, n, sizeof n, event, sizeof event);
+                asked++;
+                agreed += answer == (paxos_commit_owns(leaders, leader, (uint8_t)bal)
+                                         ? 0
+                                         : PAXOS_COMMIT_ANSWER_REFUSED + PAXOS_COMMIT_REFUSAL_NOT_OWNED);
+            }
+        }
+    printf("owners: %u of %u as the leader's step answers\n", agreed, asked);
+}
+
 /* ---- nine events and all refusals; hosts/rust/tests/header.rs compares them with the Rust crate's ---- */
 
 static void names(void) {
@@ -481,6 +508,7 @@ int main(void) {
     hosts(0);
     writer();
     deliveries();
+    ballots();
     names();
     return 0;
 }

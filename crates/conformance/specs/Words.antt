@@ -7,7 +7,8 @@
 --     table-form                    a table is the slots of its messages, all in range, then unused ones
 --     event-form                    four bytes: the kind, a process of its role, and high and low as the kind asks
 --     event-bytes, vote-place       the order of an event's bytes and the slot that they name; the place of an acceptor's three bytes in Q
---     owner-rule                    leader l owns ballot b when b > 0 and b mod L = l
+--     owner-rule                    leader l owns ballot b when b > 0 and (b - 1) mod L = l (document 02, Paper 4)
+--     owner-turns                   the first ballot of leader l is l + 1, and after each of its ballots the next is the one L further
 --     range-words                   row 17: what is in range, of each of the six messages
 --     majority-rule                 a majority is a set of acceptors with 2 × size > A
 --     inboxes-joined, inboxes-up-to, inbox-replaced     I is its L inboxes one after the other, each of one size; one is replaced without the others
@@ -15,7 +16,7 @@
 --     lowest-words                  what `Lowest` says of an answer
 --     tables-mean, open-means, step-means, role-means, read-means     what the records and enums in the contracts stand for: nothing but their parts
 -- Assumes nothing.
-use Prim.Native.Nat.{ℕ, suc, _+_, _*_, _%_, _≤_, _<_}
+use Prim.Native.Nat.{ℕ, suc, _+_, _-_, _*_, _%_, _≤_, _<_}
 use mathlib.Core.Bool.{Bool, true}
 use mathlib.Core.List.{List, [], _∷_, _++_}
 use mathlib.Core.Logic.{_⊎_, _↔_}
@@ -42,6 +43,7 @@ use Rattle.rm.specs.Rm.{areStates}
 use Rattle.votes.specs.Votes.{areVotes}
 use Rattle.acceptor.specs.Acceptor.{voteAt}
 use Rattle.leader.specs.Leader.{owns}
+use Rattle.phase2a.specs.Phase2a.Laws.{owns-rule, owns-turns}
 use Rattle.record.specs.Record.{Tables, tablesOf, inboxSize, inboxOf, withInbox, openingOf, recordStepOf}
 use Rattle.record.specs.Record.Parts as Parts
 use Rattle.matching.specs.Call.{HeldBy}
@@ -74,8 +76,11 @@ table-form = Laws.table-form
 pub event-form : (p : Plan) (e : List ℕ) → (isEvent p e ≡ true) ↔ ((length e ≡ 4) × EventForm p (kindOf e) (whoOf e) (highOf e) (lowOf e))
 event-form = Laws.event-form
 
-pub owner-rule : (p : Plan) (l b : ℕ) → (owns p l b ≡ true) ↔ ((0 < b) × (b % p .leaders ≡ l))
-owner-rule = Laws.owner-rule
+pub owner-rule : (p : Plan) (l b : ℕ) → (owns p l b ≡ true) ↔ ((0 < b) × ((b - 1) % p .leaders ≡ l))
+owner-rule p l b = owns-rule p b l
+
+pub owner-turns : (p : Plan) (l b : ℕ) → l < p .leaders → (owns p l b ≡ true) ↔ ((turn : ℕ) × (b ≡ l + 1 + turn * p .leaders))
+owner-turns p l b = owns-turns p b l
 
 pub range-words : (p : Plan) (ins acc mbal bal val : ℕ)
     → ((isInRange p (Phase1a ins bal) ≡ true) ↔ ((ins < p .rms) × (1 ≤ bal)))

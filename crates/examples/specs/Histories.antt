@@ -6,7 +6,7 @@
 --     committing-list, lists-end     the first as one list, and lists that are refused whole
 --     mixing, mixed-ends    lists among event calls
 --     order-examples        an old map, a bad field of another order, other orders by either byte, and a Commit of this order and of another
---     on, unused, refusals     each number of the event call, on tables given byte by byte
+--     on, unused, atBallot, refusals     each number of the event call, on tables given byte by byte
 --     spread, places        three weights, three acceptors and two leaders: where each call puts its bytes in the four tables
 -- Assumes nothing.
 use Prim.Native.Nat.{ℕ}
@@ -139,17 +139,17 @@ unfolding readMessage andThen refuseIf isPlan isCount isValue isVote isInRange b
     finishedRun recordRun
 mixed-ends = (refl, refl)
 
--- leader 1 opens ballot 3 for weight 2, acceptor 1 promises, leader 1 hears of it, weight 2 prepares
+-- leader 1 opens ballot 2 for weight 2, acceptor 1 promises, leader 1 hears of it, weight 2 prepares
 abbrev pub spread : List Call
-spread = event (5 ∷ 1 ∷ 2 ∷ 3 ∷ []) ∷ event (3 ∷ 1 ∷ 0 ∷ 0 ∷ []) ∷ event (4 ∷ 1 ∷ 0 ∷ 1 ∷ []) ∷ event (0 ∷ 2 ∷ 0 ∷ 0 ∷ []) ∷ []
+spread = event (5 ∷ 1 ∷ 2 ∷ 2 ∷ []) ∷ event (3 ∷ 1 ∷ 0 ∷ 0 ∷ []) ∷ event (4 ∷ 1 ∷ 0 ∷ 1 ∷ []) ∷ event (0 ∷ 2 ∷ 0 ∷ 0 ∷ []) ∷ []
 
 -- mbal of weight 2 and acceptor 1 is byte 3 × (2 × 3 + 1) of Q, and leader 1's inbox begins in the middle of I
 pub places :
     tablesAfter (record { rms = 3; acceptors = 3; leaders = 2; order = 0x0102 })
     (tablesOf (replicate 3 0) (replicate 27 0) (replicate 32 0) (replicate 32 0)) spread
-    ≡ tablesOf (0 ∷ 0 ∷ 1 ∷ []) (replicate 21 0 ++ (3 ∷ replicate 5 0))
-    ((0x29 ∷ 2 ∷ 3 ∷ 1 ∷ 2 ∷ 0 ∷ 0 ∷ 0 ∷ []) ++ ((0x27 ∷ 2 ∷ 1 ∷ 3 ∷ 1 ∷ 2 ∷ 0 ∷ 0 ∷ []) ++ ((0x39 ∷ 2 ∷ 0 ∷ 1 ∷ 1 ∷ 2 ∷ 0 ∷ 0 ∷ []) ++ replicate 8 0)))
-    (replicate 16 0 ++ ((0x27 ∷ 2 ∷ 1 ∷ 3 ∷ 1 ∷ 2 ∷ 0 ∷ 0 ∷ []) ++ replicate 8 0))
+    ≡ tablesOf (0 ∷ 0 ∷ 1 ∷ []) (replicate 21 0 ++ (2 ∷ replicate 5 0))
+    ((0x29 ∷ 2 ∷ 2 ∷ 1 ∷ 2 ∷ 0 ∷ 0 ∷ 0 ∷ []) ++ ((0x27 ∷ 2 ∷ 1 ∷ 2 ∷ 1 ∷ 2 ∷ 0 ∷ 0 ∷ []) ++ ((0x39 ∷ 2 ∷ 0 ∷ 1 ∷ 1 ∷ 2 ∷ 0 ∷ 0 ∷ []) ++ replicate 8 0)))
+    (replicate 16 0 ++ ((0x27 ∷ 2 ∷ 1 ∷ 2 ∷ 1 ∷ 2 ∷ 0 ∷ 0 ∷ []) ++ replicate 8 0))
 unfolding readMessage andThen refuseIf isPlan isCount isValue isVote isInRange bytesOf bytesOf1b messageLength slotOf mapLength isKnown ones
     fieldsMessage decode hasOrder all isTableLength slotsUpTo slots isZero readSlot readTable allUnused isOrdered isTable usedMessages
     messages sameBytes storeAt sameMessage placeFrom placeIn messageAt sending slotNumber whoLimit areZero areArguments isEvent
@@ -181,6 +181,11 @@ on w q n i e = recordStep order (tablesOf w q n i) e .answer
 abbrev pub unused : List ℕ
 unused = 0 ∷ 0 ∷ 0 ∷ 0 ∷ 0 ∷ 0 ∷ 0 ∷ 0 ∷ []
 
+-- kinds 5 and 6 with four leaders: the answer for leader who, and so the owners of ballots (document 02, Paper 4)
+abbrev pub atBallot : ℕ → ℕ → ℕ → Outcome Sent
+atBallot kind who b =
+    recordStep (record { rms = 1; acceptors = 1; leaders = 4; order = 0x0102 }) (tablesOf (0 ∷ []) (0 ∷ 0 ∷ 0 ∷ []) unused []) (kind ∷ who ∷ 0 ∷ b ∷ []) .answer
+
 -- each row of "Refusals by place" for the event call, in bytes
 pub refusals :
     (recordStep (record { rms = 0; acceptors = 1; leaders = 1; order = 0x0102 }) (tablesOf [] [] [] []) (0 ∷ 0 ∷ 0 ∷ 0 ∷ []) .answer ≡ refused 1)
@@ -200,6 +205,10 @@ pub refusals :
     × (on (0 ∷ []) (0 ∷ 0 ∷ 0 ∷ []) (0x30 ∷ 1 ∷ 1 ∷ 2 ∷ 0 ∷ 0 ∷ 0 ∷ 0 ∷ []) unused (3 ∷ 0 ∷ 0 ∷ 0 ∷ []) ≡ refused 9)
     × (on (0 ∷ []) (0 ∷ 0 ∷ 0 ∷ []) (0x39 ∷ 0 ∷ 0 ∷ 1 ∷ 1 ∷ 2 ∷ 0 ∷ 0 ∷ []) unused (4 ∷ 0 ∷ 0 ∷ 0 ∷ []) ≡ refused 9)
     × (on (0 ∷ []) (0 ∷ 0 ∷ 0 ∷ []) unused unused (5 ∷ 0 ∷ 0 ∷ 0 ∷ []) ≡ refused 10)
+    × (map (atBallot 5 0) (0 ∷ 1 ∷ 2 ∷ 4 ∷ 5 ∷ 253 ∷ []) ≡ refused 10 ∷ accepted (Slot 0) ∷ refused 10 ∷ refused 10 ∷ accepted (Slot 0) ∷ accepted (Slot 0) ∷ [])
+    × (map (atBallot 5 1) (0 ∷ 1 ∷ 2 ∷ 4 ∷ 5 ∷ 254 ∷ []) ≡ refused 10 ∷ refused 10 ∷ accepted (Slot 0) ∷ refused 10 ∷ refused 10 ∷ accepted (Slot 0) ∷ [])
+    × (map (atBallot 5 3) (0 ∷ 1 ∷ 3 ∷ 4 ∷ 255 ∷ []) ≡ refused 10 ∷ refused 10 ∷ refused 10 ∷ accepted (Slot 0) ∷ refused 10 ∷ [])
+    × (map (atBallot 6 2) (0 ∷ 2 ∷ 3 ∷ 255 ∷ []) ≡ refused 10 ∷ refused 10 ∷ refused 12 ∷ refused 12 ∷ [])
     × (on (0 ∷ []) (0 ∷ 0 ∷ 0 ∷ []) (0x30 ∷ 1 ∷ 1 ∷ 2 ∷ 0 ∷ 0 ∷ 0 ∷ 0 ∷ []) unused (2 ∷ 0 ∷ 0 ∷ 0 ∷ []) ≡ refused 11)
     × (on (3 ∷ []) (0 ∷ 0 ∷ 0 ∷ []) (0x30 ∷ 1 ∷ 1 ∷ 2 ∷ 0 ∷ 0 ∷ 0 ∷ 0 ∷ []) unused (2 ∷ 0 ∷ 0 ∷ 0 ∷ []) ≡ refused 11)
     × (on (2 ∷ []) (0 ∷ 0 ∷ 0 ∷ []) (0x30 ∷ 2 ∷ 1 ∷ 2 ∷ 0 ∷ 0 ∷ 0 ∷ 0 ∷ []) unused (2 ∷ 0 ∷ 0 ∷ 0 ∷ []) ≡ refused 11)
@@ -215,4 +224,4 @@ unfolding readMessage andThen refuseIf isPlan isCount isValue isVote isInRange b
     isQuorum any is1b is2a is2b higher reportOf highestReport proposal chosen isChosen2b decided forAll forSome owns leaderJudged
     receiptStore receipt phase1a phase2aMessage keepOwn sendBoth phase2a sendOnly decideSend leaderKind leaderVerdict leaderStep
     inboxSize inboxOf withInbox areLengths areInboxes recordJudged roleStep recordStep
-refusals = (refl, refl, refl, refl, refl, refl, refl, refl, refl, refl, refl, refl, refl, refl, refl, refl, refl, refl, refl, refl, refl, refl, refl)
+refusals = (refl, refl, refl, refl, refl, refl, refl, refl, refl, refl, refl, refl, refl, refl, refl, refl, refl, refl, refl, refl, refl, refl, refl, refl, refl, refl, refl)

@@ -5,7 +5,7 @@
 -- The laws of ownership are in Phase2a/Laws.antt, and the own 2a's place in Phase2a/Own.antt. Assumes nothing.
 pub mod Laws
 pub mod Own
-use Prim.Native.Nat.{ℕ, _%_}
+use Prim.Native.Nat.{ℕ, _-_, _%_}
 use mathlib.Core.Bool.{Bool, not, _&&_}
 use mathlib.Core.List.{List}
 use lib.Dec.{leb, eqb}
@@ -21,9 +21,9 @@ use Rattle.change.specs.declared.Update.the-variants.{Inbox}
 use Rattle.quorum.specs.Quorum.{isQuorum}
 use Rattle.inbox.specs.Inbox.{any, is1b, is2a, highestReport, proposal}
 
--- leader l owns ballot b when b > 0 and b mod L = l
+-- leader l owns ballot b when b > 0 and (b - 1) mod L = l (document 02, Paper 4)
 unfoldable pub owns : Plan → ℕ → ℕ → Bool
-owns p who b = leb 1 b && eqb (b % p .leaders) who
+owns p who b = leb 1 b && eqb ((b - 1) % p .leaders) who
 
 -- kind 6: the inbox has no 2a for (i, b), and the acceptors with a 1b there for i with mbal b are a majority; then the 2a with the value
 -- of the highest report

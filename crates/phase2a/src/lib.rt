@@ -38,7 +38,7 @@ pub fn owns_ballot(plan: Plan, who: u8, ballot: u8) -> bool
     if ballot < 1 {
         return false;
     }
-    if ballot % plan.leaders != who {
+    if (ballot - 1) % plan.leaders != who {
         return false;
     }
     true

@@ -157,7 +157,7 @@ fn kinds() -> Vec<Kind> {
     let votes = |acceptors: u8| {
         (0..acceptors).flat_map(|acc| (0..16).map(move |ins| message_2b(ins, acc, 0, 1))).collect::<Vec<_>>()
     };
-    let reports = (0..4).map(|acc| message_1b_vote(3, acc, 12, acc, 1)).collect::<Vec<_>>();
+    let reports = (0..4).map(|acc| message_1b_vote(3, acc, 13, acc, 1)).collect::<Vec<_>>();
     let aborts = (0..4).map(|acc| message_2b(3, acc, 9, 2)).collect::<Vec<_>>();
     let received = message_1b(3, 2, 20);
     vec![
@@ -179,12 +179,12 @@ fn kinds() -> Vec<Kind> {
             received: Some(received),
             ..kind("4 receipt", Event::Receipt { leader: 3, slot: 0 })
         },
-        Kind { sends: Some(message_1a(3, 12)), ..kind("5 phase 1a", Event::Phase1a { leader: 0, ins: 3, bal: 12 }) },
+        Kind { sends: Some(message_1a(3, 13)), ..kind("5 phase 1a", Event::Phase1a { leader: 0, ins: 3, bal: 13 }) },
         Kind {
             inbox: reports,
-            sends: Some(message_2a(3, 12, 1)),
+            sends: Some(message_2a(3, 13, 1)),
             appends: true,
-            ..kind("6 phase 2a", Event::Phase2a { leader: 0, ins: 3, bal: 12 })
+            ..kind("6 phase 2a", Event::Phase2a { leader: 0, ins: 3, bal: 13 })
         },
         Kind { inbox: votes(4), sends: Some(decision(1)), ..kind("7 commit", Event::Commit { leader: 3 }) },
         Kind { inbox: votes(3), ..kind("7 refused (12)", Event::Commit { leader: 3 }) },
@@ -462,7 +462,7 @@ fn events(accepted: bool) -> Vec<u8> {
         let [high, low] = match kind {
             2..=4 if accepted => (random.below(used + 1) as u16).to_be_bytes(),
             2..=4 => [random.byte(4), random.byte(256)],
-            5 | 6 => [random.byte(16), 4 * random.byte(8) + who],
+            5 | 6 => [random.byte(16), 4 * random.byte(8) + 1 + who],
             _ => [0, 0],
         };
         let event = [kind, who, high, low];
@@ -559,7 +559,7 @@ fn rows(full: bool) -> Vec<Row> {
     let came: Vec<Message> =
         weights().flat_map(|ins| [message_1b(ins, 2, 20), message_2b(ins, 5, 21, 1 + ins % 2)]).collect();
     // A leader's instances and ballots.
-    let owned = |leader: u8, count: u8| (0..count).map(move |k| ((k + 3) % 16, 12 + 4 * (k / 16) + leader));
+    let owned = |leader: u8, count: u8| (0..count).map(move |k| ((k + 3) % 16, 13 + 4 * (k / 16) + leader));
     let leading = |count: u8, event: fn(u8, u8, u8) -> Event| {
         (0..4).flat_map(|l| owned(l, count).map(move |(ins, bal)| event(l, ins, bal))).collect::<Vec<_>>()
     };

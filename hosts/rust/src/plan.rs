@@ -64,19 +64,44 @@ impl Plan {
         Some(from..from + 3)
     }
 
-    /// The leader that owns a ballot: none owns ballot 0, which is the weights' own.
-    ///
-    /// ```
-    /// # use paxos_commit::Plan;
-    /// let plan = Plan { rms: 2, acceptors: 3, leaders: 2, order: 0 };
-    /// assert_eq!(plan.owner(0), None);
-    /// assert_eq!(plan.owner(5), Some(1));
-    /// ```
+    /// The leader that owns a ballot, by turns from leader 0 at ballot 1: kinds 5 and 6 are refused to the others with
+    /// [`Refusal::NotOwned`](crate::Refusal::NotOwned). None owns ballot 0, which is the weights' own.
     pub const fn owner(self, ballot: u8) -> Option<u8> {
         if ballot == 0 || self.leaders == 0 {
             return None;
         }
-        Some(ballot % self.leaders)
+        Some((ballot - 1) % self.leaders)
+    }
+
+    /// Whether a leader owns a ballot.
+    pub const fn owns(self, leader: u8, ballot: u8) -> bool {
+        matches!(self.owner(ballot), Some(owner) if owner == leader)
+    }
+
+    /// The ballot that a leader begins with, its number and one; `None` for a number that is no leader's.
+    pub const fn first_ballot(self, leader: u8) -> Option<u8> {
+        self.next_ballot(leader, 0)
+    }
+
+    /// The lowest ballot above `ballot` that a leader owns: what it goes on with when it has heard of `ballot`. `None`
+    /// where 255 leaves none, and for a number that is no leader's.
+    ///
+    /// ```
+    /// # use paxos_commit::Plan;
+    /// let plan = Plan { rms: 2, acceptors: 3, leaders: 2, order: 0 };
+    /// assert_eq!((plan.first_ballot(0), plan.first_ballot(1), plan.first_ballot(2)), (Some(1), Some(2), None));
+    /// assert_eq!((plan.next_ballot(0, 4), plan.next_ballot(0, 5)), (Some(5), Some(7)));
+    /// assert_eq!((plan.next_ballot(0, 254), plan.next_ballot(1, 254)), (Some(255), None));
+    /// assert!(plan.owns(0, 5) && !plan.owns(1, 5) && !plan.owns(0, 0));
+    /// ```
+    pub const fn next_ballot(self, leader: u8, ballot: u8) -> Option<u8> {
+        if leader >= self.leaders {
+            return None;
+        }
+        // The ballots up to `ballot` that are this leader's, each `leaders` after the one before.
+        let turns = (ballot as u32 + (self.leaders - 1 - leader) as u32) / self.leaders as u32;
+        let next = leader as u32 + 1 + turns * self.leaders as u32;
+        if next <= u8::MAX as u32 { Some(next as u8) } else { None }
     }
 }
 

@@ -66,7 +66,7 @@ pub fn acceptor_step(plan: Plan, votes: &mut [u8], network: &mut [u8], event: &[
 /// assert_eq!(step(Event::Commit { leader: 1 }), Err(Refusal::NotEnabled));
 /// assert_eq!(step(Event::Receipt { leader: 1, slot: 0 }), Ok(Answer::Quiet));
 /// assert_eq!(step(Event::Commit { leader: 1 }), Ok(Answer::Slot(1)));
-/// assert_eq!(step(Event::Phase1a { leader: 1, ins: 0, bal: 2 }), Err(Refusal::NotOwned));
+/// assert_eq!(step(Event::Phase1a { leader: 1, ins: 0, bal: 1 }), Err(Refusal::NotOwned));
 /// ```
 #[cfg(feature = "leader")]
 #[inline]

@@ -187,10 +187,9 @@ fn refused_lists() {
 fn a_long_list() {
     let plan = Plan { rms: 16, acceptors: 1, leaders: 4, order: 0x0102 };
     let mut record = Record::fresh(plan, MAX_SLOTS, 0).unwrap();
-    let owned = |number: usize| Event::Phase1a {
-        leader: (number / 16 % 4) as u8,
-        ins: (number % 16) as u8,
-        bal: (number / 16) as u8,
+    let owned = |number: usize| {
+        let bal = (number / 16) as u8;
+        Event::Phase1a { leader: plan.owner(bal).unwrap(), ins: (number % 16) as u8, bal }
     };
     let events: Vec<Event> = (64..4096).map(owned).chain((64..4096).map(owned)).collect();
     let answers: Vec<_> = record.run(&events).unwrap().collect();
@@ -260,6 +259,27 @@ fn borrowed_and_owned_records() {
     let before = damaged.clone();
     assert_eq!(damaged.step(Event::Prepare { rm: 0 }), Err(Refusal::BadInbox));
     assert_eq!(damaged, before);
+}
+
+/// Document 02, Paper 4, at every ballot: whether a leader owns it is what the linked step says, and the next is the
+/// first that is owned.
+#[test]
+fn ballots() {
+    for leaders in 0..=5 {
+        let plan = Plan { rms: 1, acceptors: 1, leaders, order: 0x0102 };
+        for (leader, bal) in (0..=255).flat_map(|leader| (0..=255).map(move |bal| (leader, bal))) {
+            let owned = bal > 0 && leaders > 0 && (bal - 1) % leaders == leader;
+            assert_eq!(plan.owns(leader, bal), owned);
+            assert_eq!(plan.owner(bal) == Some(leader), owned);
+            assert_eq!(plan.next_ballot(leader, bal), (bal..=255).skip(1).find(|&next| plan.owns(leader, next)));
+            assert_eq!(plan.first_ballot(leader), (leader < leaders).then(|| leader + 1));
+            if plan.first_ballot(leader).is_some() && leaders <= 4 {
+                let event = Event::Phase1a { leader, ins: 0, bal }.bytes();
+                let answer = if owned { Ok(Answer::Slot(0)) } else { Err(Refusal::NotOwned) };
+                assert_eq!(leader_step(plan, &mut [], &mut [0; 8], &event), answer);
+            }
+        }
+    }
 }
 
 #[test]

@@ -28,7 +28,6 @@ use Rattle.quorum.specs.Quorum.Sets.{quorum-set, set-quorum}
 use Rattle.rm.specs.Rm.{areStates}
 use Rattle.votes.specs.Votes.{isVoteState, areVotes}
 use Rattle.votes.specs.Votes.Laws.{areVotes-at}
-use Rattle.leader.specs.Leader.{owns}
 use Rattle.record.specs.Record.{inboxSize, inboxOf, withInbox}
 use Rattle.record.specs.Record.Parts.{inboxOf-with, inboxOf-with-other}
 use Rattle.slots.specs.Table.{slotSize, maxSlots, isTableLength, isTable, messages}
@@ -49,13 +48,6 @@ plan-range p = (there, back)
     back : (1 ≤ p .rms) × (p .rms ≤ 16) × (1 ≤ p .acceptors) × (p .acceptors ≤ 7) × (1 ≤ p .leaders) × (p .leaders ≤ 4) → isPlan p ≡ true
     back (a, b, c, d, e, f) =
         rw (le-leb 1 (p .rms) a, le-leb (p .rms) 16 b, le-leb 1 (p .acceptors) c, le-leb (p .acceptors) 7 d, le-leb 1 (p .leaders) e, le-leb (p .leaders) 4 f)
-
-pub owner-rule : (p : Plan) (l b : ℕ) → (owns p l b ≡ true) ↔ ((0 < b) × (b % p .leaders ≡ l))
-unfolding owns
-owner-rule p l b = (
-  λ h. let t = both (leb 1 b) (eqb (b % p .leaders) l) h in (leb-true 1 b (t .0), eqb-true _ _ (t .1)),
-  λ h. rw (le-leb 1 b (h .0), eq-eqb (b % p .leaders) l (h .1)),
-)
 
 -- two tests, and three
 and-words : {A B : Type 0} (a b : Bool) → (a ≡ true) ↔ A → (b ≡ true) ↔ B → ((a && b) ≡ true) ↔ (A × B)

@@ -383,7 +383,7 @@ impl Generator {
             };
         }
         let pattern = random.next() as u8;
-        Call::Run(events, (0..length).map(|at| pattern.wrapping_add(7 * at as u8)).collect())
+        Call::Run(events, (0..length).map(|at| pattern.wrapping_add((7 * at) as u8)).collect())
     }
 
     /// A leader's own call on a part of I that is no leader's, or another leader's.
@@ -430,7 +430,7 @@ impl Generator {
         if self.random.percent(6) {
             return self.ballot();
         }
-        leader + self.plan.leaders * self.random.byte(3)
+        leader + 1 + self.plan.leaders * self.random.byte(3)
     }
 
     fn event(&mut self, tables: &Tables) -> [u8; 4] {

@@ -28,7 +28,7 @@ pub(crate) fn step(plan: Plan, inbox: &mut Row, network: &mut Row, event: Event)
         inbox.put(at, slot);
         return Ok(Sent::Quiet);
     }
-    if (kind == 5 || kind == 6) && (bal == 0 || bal % plan.leaders != event.who) {
+    if (kind == 5 || kind == 6) && (bal == 0 || (bal - 1) % plan.leaders != event.who) {
         return Err(refusal::BALLOT);
     }
     let message = match kind {

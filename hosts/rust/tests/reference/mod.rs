@@ -1,13 +1,13 @@
-//! Document 01 in Rust by hand, with the order number, the list and the lengths
-//! of document 02, Papers 1 to 3, for the tests and the benchmark of the crate
-//! above; it is no part of it.
+//! Document 01 in Rust by hand, with the order number, the list, the lengths
+//! and the owners of ballots of document 02, Papers 1 to 4, for the tests and
+//! the benchmark of the crate above; it is no part of it.
 //! Document 01's part was written from the document alone, by someone who had
 //! not seen the proved source; the delivery and the ending, which the document
 //! has not as calls, from their description (see `host`). The order number was
 //! added from Paper 1's text, by someone who had seen the proved byte form, and
 //! the list from Paper 2's, without sight of the proved list call; Phase2a got
-//! its blocks of slots then. Lengths are counted as Paper 3's text says. The
-//! tests use its public functions only.
+//! its blocks of slots then. Lengths are counted and ballots owned as Papers 3's
+//! and 4's text says. The tests use its public functions only.
 //!
 //! A record is four byte tables, lent to every call:
 //!
