@@ -33,7 +33,7 @@ use Rattle.acceptor.specs.Acceptor.{voteAt, voteOf, phase1b, phase2b, acceptorJ
 use Rattle.quorum.specs.Quorum.{countAcceptors, isMajority, isQuorum}
 use Rattle.inbox.specs.Inbox.{any, is1b, is2a, is2b, higher, reportOf, highestReport, proposal, chosen, isChosen2b, decided, forAll, forSome}
 use Rattle.leader.specs.Leader.{owns, leaderJudged, receiptStore, receipt, phase1a, phase2aMessage, keepOwn, sendBoth, phase2a, sendOnly, decideSend}
-use Rattle.leader.specs.Leader.{leaderKind, leaderVerdict, leaderStep}
+use Rattle.leader.specs.Leader.{leaderKind, leaderVerdictBy, leaderStepBy}
 use Rattle.deliver.specs.Deliver.{deliverJudged, deliverStep}
 use Rattle.apart.specs.Hosts.{Role, rm, acceptor, leader, System, Happening, call, delivery, restart, NotForged, TableKept, Genuine, row}
 use Rattle.apart.specs.Hosts.{zeroHosts, systemAfter, AllGenuine}
@@ -169,7 +169,7 @@ unfolding readMessage andThen refuseIf isPlan isCount isValue isVote isInRange b
     areStates rmJudged rmChoose rmReceiveDecision rmReceive rmKind rmVerdict rmStep voteAt
     isVoteState areVotes acceptorJudged voteOf phase1b phase2b acceptorReceive acceptorVerdict acceptorStep countAcceptors isMajority
     isQuorum any is1b is2a is2b higher reportOf highestReport proposal chosen isChosen2b decided forAll forSome owns leaderJudged
-    receiptStore receipt phase1a phase2aMessage keepOwn sendBoth phase2a sendOnly decideSend leaderKind leaderVerdict leaderStep
+    receiptStore receipt phase1a phase2aMessage keepOwn sendBoth phase2a sendOnly decideSend leaderKind leaderVerdictBy leaderStepBy
     deliverJudged deliverStep
 computed = (
   (refl, refl, refl, refl),

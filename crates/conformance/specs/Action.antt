@@ -16,7 +16,7 @@ use Rattle.message.specs.declared.Message.the-variants.{Phase1a, Phase2a}
 use Rattle.slots.specs.Table.{messages}
 use Rattle.event.specs.Event.{kindOf, whoOf, highOf, lowOf}
 use Rattle.paxos_commit.specs.PaxosCommit.{State, Message, Commit, Abort, UnchangedMsgs}
-use Rattle.record.specs.Record.{Tables, tablesOf, withInbox}
+use Rattle.record.specs.Record.{Tables, withInboxes, withInbox}
 use Rattle.matching.specs.Reading.{isRM, isAcceptor, isMajoritySet, valOf, messageOf, setOf}
 use Rattle.matching.specs.Call.{SlotHolds, Stores}
 use Rattle.matching.specs.Rm.{RMPrepare, RMChooseToAbort, RMRcvCommitMsg, RMRcvAbortMsg}
@@ -56,4 +56,4 @@ Copies p t e t′ =
     (m : Wire.Message) × InSlot p (t .network) e m
     × (isReceived m ≡ true)
     × ((inbox : List ℕ) × Stores p (ownInbox p t e) m inbox
-    × (t′ ≡ tablesOf (t .states) (t .votes) (t .network) (withInbox p (t .inboxes) (whoOf e) inbox)))
+    × (t′ ≡ withInboxes t (withInbox p (t .inboxes) (whoOf e) inbox)))

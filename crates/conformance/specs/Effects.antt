@@ -21,7 +21,7 @@ use Rattle.slots.specs.Send.{messageAt}
 use Rattle.event.specs.Event.{kindOf, whoOf, highOf, lowOf, slotNumber}
 use Rattle.change.specs.declared.Sent.{Sent}
 use Rattle.leader.specs.Leader.{owns}
-use Rattle.record.specs.Record.{Tables, tablesOf, inboxOf, withInbox}
+use Rattle.record.specs.Record.{Tables, withInboxes, inboxOf, withInbox}
 use Rattle.paxos_commit.specs.PaxosCommit as Module
 use Rattle.paxos_commit.specs.PaxosCommit.{State, Message, Commit, Abort}
 use Rattle.matching.specs.Reading.{isRM, isAcceptor, isMajoritySet, valOf, messageOf, setOf, rmStateOf, aStateOf}
@@ -90,4 +90,4 @@ module _ (p : Plan) (t : Tables) (e : List ℕ) where
   copies-one u v (m, held, taken, (box, h, is)) (n, holds, also, (case, k, was)) =
       let same : m ≡ n = accepted-inj (sym held ∙ holds) in
       let one = stores-one p (ownInbox p t e) n (rw same at h) k in
-      is ∙ ap (λ (b : List ℕ). tablesOf (t .states) (t .votes) (t .network) (withInbox p (t .inboxes) (whoOf e) b)) one ∙ sym was
+      is ∙ ap (λ (b : List ℕ). withInboxes t (withInbox p (t .inboxes) (whoOf e) b)) one ∙ sym was

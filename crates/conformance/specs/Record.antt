@@ -39,7 +39,7 @@ use Rattle.rm.specs.Rm.{areStates}
 use Rattle.votes.specs.Votes.{areVotes}
 use Rattle.acceptor.specs.Acceptor.{voteAt}
 use Rattle.leader.specs.Leader.{owns}
-use Rattle.record.specs.Record.{Tables, tablesOf, inboxSize, inboxOf, withInbox}
+use Rattle.record.specs.Record.{Tables, withStates, withVotes, withNetwork, withInboxes, inboxSize, inboxOf, withInbox}
 use Rattle.matching.specs.Reading.{isRM, isAcceptor, valOf, messageOf, setOf, rmStateOf, aStateOf}
 use Rattle.matching.specs.Call.{SlotUnused, SlotHolds, Sends, Stores}
 use Rattle.matching.specs.Rm as Rm
@@ -193,34 +193,34 @@ module _ (p : Plan) (t : Tables) (e : List ℕ) (answer : Outcome Sent) (t′ : 
 
   pub data Acted : Type 0 where
     prepares : kindOf e ≡ 0 → isRM p (whoOf e) → RMPrepare p (whoOf e) (recordState p t) (recordState p t′) → Sent-in-N (Phase2a (whoOf e) 0 1)
-        → t′ ≡ tablesOf (set (t .states) (whoOf e) prepared) (t .votes) (t′ .network) (t .inboxes) → Acted
+        → t′ ≡ withNetwork (withStates t (set (t .states) (whoOf e) prepared)) (t′ .network) → Acted
     chooses-to-abort : kindOf e ≡ 1 → isRM p (whoOf e) → RMChooseToAbort p (whoOf e) (recordState p t) (recordState p t′)
         → Sent-in-N (Phase2a (whoOf e) 0 2)
-        → t′ ≡ tablesOf (set (t .states) (whoOf e) aborted) (t .votes) (t′ .network) (t .inboxes) → Acted
+        → t′ ≡ withNetwork (withStates t (set (t .states) (whoOf e) aborted)) (t′ .network) → Acted
     receives-commit : kindOf e ≡ 2 → isRM p (whoOf e) → SlotHolds p (t .network) e (λ m. messageOf m ≡ Commit)
         → RMRcvCommitMsg p (whoOf e) (recordState p t) (recordState p t′) → answer ≡ accepted Quiet
-        → t′ ≡ tablesOf (set (t .states) (whoOf e) committed) (t .votes) (t .network) (t .inboxes) → Acted
+        → t′ ≡ withStates t (set (t .states) (whoOf e) committed) → Acted
     receives-abort : kindOf e ≡ 2 → isRM p (whoOf e) → SlotHolds p (t .network) e (λ m. messageOf m ≡ Abort)
         → RMRcvAbortMsg p (whoOf e) (recordState p t) (recordState p t′) → answer ≡ accepted Quiet
-        → t′ ≡ tablesOf (set (t .states) (whoOf e) aborted) (t .votes) (t .network) (t .inboxes) → Acted
+        → t′ ≡ withStates t (set (t .states) (whoOf e) aborted) → Acted
     promises : kindOf e ≡ 3 → isAcceptor p (whoOf e) → (ins bal : ℕ) → InSlot p (t .network) e (Phase1a ins bal)
         → Phase1bAction p (whoOf e) ins bal (recordState p t) (recordState p t′) → Sent-in-N (reportOf p (t .votes) (whoOf e) ins bal)
-        → t′ ≡ tablesOf (t .states) (set (t .votes) (at ins) bal) (t′ .network) (t .inboxes) → Acted
+        → t′ ≡ withNetwork (withVotes t (set (t .votes) (at ins) bal)) (t′ .network) → Acted
     casts-vote : kindOf e ≡ 3 → isAcceptor p (whoOf e) → (ins bal val : ℕ) → InSlot p (t .network) e (Phase2a ins bal val)
         → Phase2bAction p (whoOf e) ins bal (valOf val) (recordState p t) (recordState p t′) → Sent-in-N (Phase2b ins (whoOf e) bal val)
-        → t′ ≡ tablesOf (t .states) (set (set (set (t .votes) (at ins) bal) (at ins + 1) bal) (at ins + 2) val) (t′ .network) (t .inboxes) → Acted
+        → t′ ≡ withNetwork (withVotes t (set (set (set (t .votes) (at ins) bal) (at ins + 1) bal) (at ins + 2) val)) (t′ .network) → Acted
     receives : kindOf e ≡ 4 → whoOf e < p .leaders → (m : Wire.Message) → InSlot p (t .network) e m → Leader.isReceived m ≡ true
         → answer ≡ accepted Quiet → (inbox : List ℕ) → Stores p (ownInbox p t e) m inbox
-        → t′ ≡ tablesOf (t .states) (t .votes) (t .network) (withInbox p (t .inboxes) (whoOf e) inbox) → Acted
+        → t′ ≡ withInboxes t (withInbox p (t .inboxes) (whoOf e) inbox) → Acted
     opens-ballot : kindOf e ≡ 5 → whoOf e < p .leaders → isRM p (highOf e) → owns p (whoOf e) (lowOf e) ≡ true
         → Phase1aAction p (lowOf e) (highOf e) (recordState p t) (recordState p t′) → Sent-in-N (Phase1a (highOf e) (lowOf e))
-        → t′ ≡ tablesOf (t .states) (t .votes) (t′ .network) (t .inboxes) → Acted
+        → t′ ≡ withNetwork t (t′ .network) → Acted
     proposes : kindOf e ≡ 6 → whoOf e < p .leaders → isRM p (highOf e) → owns p (whoOf e) (lowOf e) ≡ true
         → (acts : Phase2aAction p seen (lowOf e) (highOf e) (recordState p t) (recordState p t′))
         → phase2a (highOf e) (lowOf e) (valueOf acts) ≡ messageOf (proposed p (ownInbox p t e) e) → Sent-in-N (proposed p (ownInbox p t e) e)
         → (inbox : List ℕ) → Stores p (ownInbox p t e) (proposed p (ownInbox p t e) e) inbox
-        → t′ ≡ tablesOf (t .states) (t .votes) (t′ .network) (withInbox p (t .inboxes) (whoOf e) inbox) → Acted
+        → t′ ≡ withNetwork (withInboxes t (withInbox p (t .inboxes) (whoOf e) inbox)) (t′ .network) → Acted
     commits : kindOf e ≡ 7 → whoOf e < p .leaders → CommitAction p seen (recordState p t) (recordState p t′) → Sent-in-N (Decision 1)
-        → t′ ≡ tablesOf (t .states) (t .votes) (t′ .network) (t .inboxes) → Acted
+        → t′ ≡ withNetwork t (t′ .network) → Acted
     aborts : kindOf e ≡ 8 → whoOf e < p .leaders → AbortAction p seen (recordState p t) (recordState p t′) → Sent-in-N (Decision 2)
-        → t′ ≡ tablesOf (t .states) (t .votes) (t′ .network) (t .inboxes) → Acted
+        → t′ ≡ withNetwork t (t′ .network) → Acted

@@ -30,7 +30,7 @@ use Rattle.votes.specs.Votes.{isVoteState, areVotes}
 use Rattle.acceptor.specs.Acceptor.{voteAt, voteOf, phase1b, phase2b, acceptorJudged, acceptorReceive, acceptorVerdict, acceptorStep}
 use Rattle.quorum.specs.Quorum.{countAcceptors, isMajority, isQuorum}
 use Rattle.inbox.specs.Inbox.{any, is1b, is2a, is2b, higher, reportOf, highestReport, proposal, chosen, isChosen2b, decided, forAll}
-use Rattle.leader.specs.Leader.{owns, leaderJudged, phase2aMessage, keepOwn, sendBoth, phase2a, sendOnly, decideSend, leaderKind, leaderVerdict, leaderStep}
+use Rattle.leader.specs.Leader.{owns, leaderJudged, phase2aMessage, keepOwn, sendBoth, phase2a, sendOnly, decideSend, leaderKind, leaderVerdictBy, leaderStepBy, leaderStep}
 
 pub data Result : Type 0 where
   reads : Outcome Message → Result
@@ -114,7 +114,7 @@ unfolding examples readMessage andThen refuseIf isPlan isCount isValue isVote is
     messages sameBytes storeAt sameMessage placeFrom placeIn messageAt sending slotNumber whoLimit areZero areArguments isEvent voteAt
     isVoteState areVotes acceptorJudged voteOf phase1b phase2b acceptorReceive acceptorVerdict acceptorStep countAcceptors isMajority
     isQuorum any is1b is2a is2b higher reportOf highestReport proposal chosen isChosen2b decided forAll owns leaderJudged phase2aMessage
-    keepOwn sendBoth phase2a sendOnly decideSend leaderKind leaderVerdict leaderStep
+    keepOwn sendBoth phase2a sendOnly decideSend leaderKind leaderVerdictBy leaderStepBy
 examples-hold = refl
 
 -- the table has all of document 01's examples, the twelfth in its two parts

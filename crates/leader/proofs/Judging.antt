@@ -13,7 +13,7 @@ use Rattle.slots.specs.View.Laws.{view-judged}
 use Rattle.change.specs.Change.{Step, applied}
 use Rattle.change.proofs.Stepping.{step-performed}
 use Rattle.leader.specs.Leader.Sound.{sound}
-use Rattle.leader.specs.Leader.{leaderJudged, leaderVerdict, leaderStep}
+use Rattle.leader.specs.Leader.{leaderJudged, leaderVerdict, leaderStepBy, leaderStep}
 
 pub judged-views : (p : Plan) (inbox network : List ℕ) → accepted tt ≡ leaderJudged p inbox network
     → (viewBytes p inbox ≡ viewTable p inbox) × (viewBytes p network ≡ viewTable p network)
@@ -23,7 +23,7 @@ judged-views p inbox network e =
 
 pub step-sound : (p : Plan) (inbox network e : List ℕ) → accepted tt ≡ leaderJudged p inbox network
     → (r : Step) → r ≡ applied p inbox network (leaderVerdict p (viewBytes p inbox) (viewBytes p network) e) → r ≡ leaderStep p inbox network e
-unfolding leaderStep
+unfolding leaderStepBy
 step-sound p inbox network e sound r h =
     let views = judged-views p inbox network sound in
     step-performed p inbox network _ _ sound r

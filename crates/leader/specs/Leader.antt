@@ -5,8 +5,9 @@
 --     receipt                       kind 4
 --     phase1a                       kind 5
 --     decideSend                    kinds 7 and 8
---     leaderKind, leaderVerdict     rows 7 to 14: what an event changes, or its refusal
---     leaderStep                    the whole call
+--     leaderKind, leaderVerdictBy   rows 7 to 14, by what counts as decided: what an event changes, or its refusal
+--     leaderStepBy                  the whole call, by what counts as decided
+--     leaderVerdict, leaderStep     the same with Decided read from the inbox
 -- What is judged is in Leader/Sound.antt. Assumes nothing.
 pub mod Sound
 pub mod Updates
@@ -21,7 +22,7 @@ use Rattle.message.specs.declared.Message.the-variants.{Phase1a, Phase1b, Phase
 use Rattle.message.specs.Outcome.{Outcome, accepted, refused, andThen, refuseIf}
 use Rattle.message.specs.Plan.{isPlan}
 use Rattle.slots.specs.declared.Store.the-variants.{Keep}
-use Rattle.slots.specs.Table.{isTableLength, isTable}
+use Rattle.slots.specs.Table.{isTableLength, isTable, messages}
 use Rattle.slots.specs.View.{View, viewTable, sending}
 use Rattle.change.specs.declared.Change.{Change}
 use Rattle.change.specs.declared.Sent.the-variants.{Slot, Quiet}
@@ -78,16 +79,22 @@ leaderKind p isDecided box net e kind =
     (cond (eqb kind 7) (decideSend net (forAll (p .rms) (λ i. isDecided i 1)) 1)
     (decideSend net (forSome (p .rms) (λ i. isDecided i 2)) 2))))
 
--- row 7, with another role's kind; Decided is read from the inbox. The plan is judged here too, so that the part by itself needs no check
--- before it
-unfoldable pub leaderVerdict : Plan → View → View → List ℕ → Outcome Change
-leaderVerdict p box net e =
+-- row 7, with another role's kind. The plan is judged here too, so that the part by itself needs no check before it
+unfoldable pub leaderVerdictBy : Plan → (ℕ → ℕ → Bool) → View → View → List ℕ → Outcome Change
+leaderVerdictBy p isDecided box net e =
     refuseIf (not (isPlan p)) 1
     (refuseIf (not (isEvent p e)) 7
     (refuseIf (ltb (kindOf e) 4) 7
-    (leaderKind p (decided p (box .messages)) box net e (kindOf e))))
+    (leaderKind p isDecided box net e (kindOf e))))
 
 -- the event is taken on the messages that the inbox and N hold
-unfoldable pub leaderStep : Plan → List ℕ → List ℕ → List ℕ → Step
-leaderStep p inbox network e =
-    applied p inbox network (andThen (leaderJudged p inbox network) (λ _. leaderVerdict p (viewTable p inbox) (viewTable p network) e))
+unfoldable pub leaderStepBy : Plan → (ℕ → ℕ → Bool) → List ℕ → List ℕ → List ℕ → Step
+leaderStepBy p isDecided inbox network e =
+    applied p inbox network (andThen (leaderJudged p inbox network) (λ _. leaderVerdictBy p isDecided (viewTable p inbox) (viewTable p network) e))
+
+-- Decided is read from the inbox
+abbrev pub leaderVerdict : Plan → View → View → List ℕ → Outcome Change
+leaderVerdict p box net e = leaderVerdictBy p (decided p (box .messages)) box net e
+
+abbrev pub leaderStep : Plan → List ℕ → List ℕ → List ℕ → Step
+leaderStep p inbox network e = leaderStepBy p (decided p (messages p inbox)) inbox network e

@@ -1,10 +1,13 @@
 -- What the match of a leader's step speaks of. The theorems are in Theorems.antt, their proofs in Leader/Laws.antt.
---     Phase1aAction, Phase2aAction, CommitAction, AbortAction     the actions at a plan's constants; `seen` is what their conditions are read from
+--     Phase1aAction, Phase2aAction     the actions at a plan's constants; `seen` is what Phase2a's conditions are read from
+--     CommitBy, AbortBy, DecidedIn     Decide, by what counts as decided; what is decided by the messages of a set
+--     CommitAction, AbortAction        Decide by the messages of a set
 --     stateOf                  the variables of module PaxosCommit: msgs as N holds them; a leader changes no other
 --     isReceived, proposed, Reports     the messages that a leader takes; the 2a that it proposes; the votes that 1b messages report
---     NotOwned, Disabled, Full, InboxFull     rows 10, 12, 13 and 14
---     leaderRows               the rows of "Refusals by place" for the call
+--     NotOwned, DisabledBy, Disabled, Full, InboxFull     rows 10, 12, 13 and 14
+--     leaderRowsBy, leaderRows the rows of "Refusals by place" for the call
 -- Assumes nothing.
+pub mod Decided
 pub mod Conditions
 pub mod Highest
 pub mod Guards
@@ -27,7 +30,7 @@ use Rattle.slots.specs.Table.{isTableLength, isTable, messages}
 use Rattle.event.specs.Event.{kindOf, whoOf, highOf, lowOf, isEvent}
 use Rattle.inbox.specs.Inbox.{highestReport, proposal}
 use Rattle.paxos_commit.specs.PaxosCommit as Source
-use Rattle.paxos_commit.specs.PaxosCommit.{Message, AState, State}
+use Rattle.paxos_commit.specs.PaxosCommit.{Val, Message, AState, State}
 use Rattle.leader.specs.Leader.{owns}
 use Rattle.matching.specs.Reading.{isRM, isAcceptor, isMajoritySet, setOf}
 use Rattle.matching.specs.Call.{Enabled, HasRoom, SlotUnused, SlotHolds}
@@ -38,13 +41,22 @@ Phase1aAction p = Source.Phase1a (isRM p) (isAcceptor p) (isMajoritySet p)
 abbrev pub Phase2aAction : Plan → (Message → Type 0) → ℕ → ℕ → State → State → Type 0
 Phase2aAction p = Source.Phase2aFrom (isRM p) (isAcceptor p) (isMajoritySet p)
 
+-- Decide, by what counts as decided
+abbrev pub CommitBy : Plan → (ℕ → Val → Type 0) → State → State → Type 0
+CommitBy p = Source.DecideCommitWhere (isRM p) (isAcceptor p) (isMajoritySet p)
+
+abbrev pub AbortBy : Plan → (ℕ → Val → Type 0) → State → State → Type 0
+AbortBy p = Source.DecideAbortWhere (isRM p) (isAcceptor p) (isMajoritySet p)
+
+-- what the source calls decided, by the messages of a set; and Decide by that
+abbrev pub DecidedIn : Plan → (Message → Type 0) → ℕ → Val → Type 0
+DecidedIn p = Source.Decided (isRM p) (isAcceptor p) (isMajoritySet p)
+
 abbrev pub CommitAction : Plan → (Message → Type 0) → State → State → Type 0
-CommitAction p seen =
-    Source.DecideCommitWhere (isRM p) (isAcceptor p) (isMajoritySet p) (Source.Decided (isRM p) (isAcceptor p) (isMajoritySet p) seen)
+CommitAction p seen = CommitBy p (DecidedIn p seen)
 
 abbrev pub AbortAction : Plan → (Message → Type 0) → State → State → Type 0
-AbortAction p seen =
-    Source.DecideAbortWhere (isRM p) (isAcceptor p) (isMajoritySet p) (Source.Decided (isRM p) (isAcceptor p) (isMajoritySet p) seen)
+AbortAction p seen = AbortBy p (DecidedIn p seen)
 
 -- N as msgs; rmState and aState are no leader's
 abbrev pub stateOf : Plan → List ℕ → (ℕ → ℕ) → (ℕ → ℕ → AState) → State
@@ -70,14 +82,17 @@ Reports ms i b c = (a v : ℕ) × List·Memᴰ (Phase1b i a b (Cast c v)) ms
 abbrev pub NotOwned : Plan → List ℕ → Type 0
 NotOwned p e = ((kindOf e ≡ 5) ⊎ (kindOf e ≡ 6)) × (owns p (whoOf e) (lowOf e) ≡ false)
 
--- row 12: the kind's action, read from the inbox, is not enabled
-abbrev pub Disabled : Plan → List ℕ → List ℕ → State → Type 1
-Disabled p inbox e s =
+-- row 12: the kind's action is not enabled, Phase2a read from the inbox and Decide by what counts as decided
+abbrev pub DisabledBy : Plan → (ℕ → Val → Type 0) → List ℕ → List ℕ → State → Type 1
+DisabledBy p Decided inbox e s =
     Either
     ((kindOf e ≡ 6) × (Enabled p (Phase2aAction p (setOf (messages p inbox)) (lowOf e) (highOf e)) s → ⊥))
     (Either
-    ((kindOf e ≡ 7) × (Enabled p (CommitAction p (setOf (messages p inbox))) s → ⊥))
-    ((kindOf e ≡ 8) × (Enabled p (AbortAction p (setOf (messages p inbox))) s → ⊥)))
+    ((kindOf e ≡ 7) × (Enabled p (CommitBy p Decided) s → ⊥))
+    ((kindOf e ≡ 8) × (Enabled p (AbortBy p Decided) s → ⊥)))
+
+abbrev pub Disabled : Plan → List ℕ → List ℕ → State → Type 1
+Disabled p inbox = DisabledBy p (DecidedIn p (setOf (messages p inbox))) inbox
 
 -- row 13: the message to send is not in N, and N has no unused slot
 abbrev pub Full : Plan → List ℕ → List ℕ → List ℕ → Type 0
@@ -94,8 +109,8 @@ InboxFull p inbox network e =
     ⊎ ((kindOf e ≡ 6) × (HasRoom p inbox (proposed p inbox e) → ⊥))
 
 -- a leader's own call: the plan, its two tables, the event, and the rows of kinds 4 to 8
-abbrev pub leaderRows : Plan → List ℕ → List ℕ → List ℕ → State → Rows
-leaderRows p inbox network e s =
+abbrev pub leaderRowsBy : Plan → (ℕ → Val → Type 0) → List ℕ → List ℕ → List ℕ → State → Rows
+leaderRowsBy p Decided inbox network e s =
     row 1 (isPlan p ≡ false)
     (row 2 ((isTableLength (length inbox) ≡ false) ⊎ (isTableLength (length network) ≡ false))
     (row 5 (isTable p network ≡ false)
@@ -104,7 +119,11 @@ leaderRows p inbox network e s =
     (row 8 ((kindOf e ≡ 4) × SlotUnused p network e)
     (row 9 ((kindOf e ≡ 4) × SlotHolds p network e (λ m. isReceived m ≡ false))
     (row 10 (NotOwned p e)
-    (guard 12 (Disabled p inbox e s)
+    (guard 12 (DisabledBy p Decided inbox e s)
     (row 13 (Full p inbox network e)
     (row 14 (InboxFull p inbox network e)
     end))))))))))
+
+-- Decided is read from the inbox
+abbrev pub leaderRows : Plan → List ℕ → List ℕ → List ℕ → State → Rows
+leaderRows p inbox = leaderRowsBy p (DecidedIn p (setOf (messages p inbox))) inbox

@@ -49,11 +49,13 @@ use mathlib.Core.List.{List·Memᴰ}
 use Rattle.quorum.specs.Quorum.{isQuorum}
 use Rattle.message.specs.declared.Vote.the-variants.{Cast}
 use Rattle.message.specs.Plan.{isPlan}
+use Rattle.inbox.specs.Inbox.{decided}
 use Rattle.leader.specs.Leader.{owns, leaderJudged, leaderStep}
-use Rattle.matching.specs.Leader.{Phase1aAction, Phase2aAction, CommitAction, AbortAction, proposed, Reports, leaderRows}
+use Rattle.matching.specs.Leader.{Phase1aAction, Phase2aAction, CommitAction, AbortAction, DecidedIn, proposed, Reports, leaderRows}
 use Rattle.matching.specs.Leader.{stateOf as leaderState}
+use Rattle.matching.specs.Leader.Conditions.{reads-inbox}
 use Rattle.matching.specs.Leader.Ruled.{leader-ruled}
-use Rattle.matching.specs.Leader.Took.{took as leader-took}
+use Rattle.matching.specs.Leader.Took.{Took, took as leader-took}
 use Rattle.matching.specs.Leader.Laws as Leader
 
 -- module PaxosCommit's ASSUME at a plan's constants
@@ -171,52 +173,55 @@ module _ (p : Plan) (inbox network e : List ℕ) where
   seen = setOf (messages p inbox)
 
   pub leader-keeps : (k : ℕ) → leader .answer ≡ refused k → (leader .table ≡ inbox) × (leader .network ≡ network)
-  leader-keeps k is = tables-kept (Leader.keeps p inbox network e k is)
+  leader-keeps k is = tables-kept (Leader.keeps p _ inbox network e k is)
 
   pub leader-sound : leaderJudged p inbox network ≡ accepted tt
       → (leaderJudged p (leader .table) (leader .network) ≡ accepted tt)
       × (length (leader .table) ≡ length inbox)
       × (length (leader .network) ≡ length network)
-  leader-sound = Leader.stays-sound p inbox network e
+  leader-sound = Leader.stays-sound p _ inbox network e
 
   pub leader-member : Accepted (leader .answer) → whoOf e < p .leaders
-  leader-member taken = let t = leader-took p inbox network e taken in leader-who p e (t .event) (t .least)
+  leader-member taken = let t = leader-took p _ inbox network e taken in leader-who p e (t .event) (t .least)
 
   -- kinds 5 and 6
   pub leader-instance : Accepted (leader .answer) → 4 < kindOf e → kindOf e ≤ 6 → isRM p (highOf e)
-  leader-instance taken = event-instance p e (leader-took p inbox network e taken .event)
+  leader-instance taken = event-instance p e (leader-took p _ inbox network e taken .event)
 
   -- the 2a that kind 6 proposes: of several highest reports in the inbox the first
   pub leader-proposal : (xs ys : List Wire.Message) (a c v : ℕ) → messages p inbox ≡ xs ++ (Phase1b (highOf e) a (lowOf e) (Cast c v) ∷ ys)
       → ((d : ℕ) → Reports xs (highOf e) (lowOf e) d → d < c)
       → ((d : ℕ) → Reports ys (highOf e) (lowOf e) d → d ≤ c)
       → proposed p inbox e ≡ Phase2a (highOf e) (lowOf e) v
-  leader-proposal = Leader.proposal-first p inbox network e
+  leader-proposal = Leader.proposal-first p inbox e
 
   -- and aborted where no vote is reported
   pub leader-proposal-none : ((d : ℕ) → Reports (messages p inbox) (highOf e) (lowOf e) d → ⊥)
       → proposed p inbox e ≡ Phase2a (highOf e) (lowOf e) 2
-  leader-proposal-none = Leader.proposal-none p inbox network e
+  leader-proposal-none = Leader.proposal-none p inbox e
 
   module _ (rmState : ℕ → ℕ) (aState : ℕ → ℕ → AState) where
     pub leader-answers : Lowest (leaderRows p inbox network e (leaderState p network rmState aState)) (leader .answer)
     unfolding isAscending
-    leader-answers = lowest-of-ruled _ refl _ (leader-ruled p inbox network e rmState aState)
+    leader-answers = lowest-of-ruled _ refl _ (leader-ruled p _ (DecidedIn p seen) inbox network e (reads-inbox p _) rmState aState)
 
     module _ (taken : Accepted (leader .answer)) where
+      took : Took p (decided p (messages p inbox)) inbox network e
+      took = leader-took p _ inbox network e taken
+
       -- kind 4: quiet; N keeps its bytes, and the inbox gains the message in the slot
       pub leader-receipt : kindOf e ≡ 4 → (m : Wire.Message) → messageAt (messages p network) (slotNumber e) ≡ accepted m
           → (leader .answer ≡ accepted Quiet)
           × (leader .network ≡ network)
           × Stores p inbox m (leader .table)
-      leader-receipt = Leader.receipt-acts p inbox network e rmState aState (leader-took p inbox network e taken)
+      leader-receipt = Leader.receipt-acts rmState aState took
 
       -- kind 5: Phase1a
       pub leader-phase1a : kindOf e ≡ 5
           → Phase1aAction p (lowOf e) (highOf e) (leaderState p network rmState aState) (leaderState p (leader .network) rmState aState)
           × Sends p network (Phase1a (highOf e) (lowOf e)) (leader .answer) (leader .network)
           × (leader .table ≡ inbox)
-      leader-phase1a kind = Leader.phase1a-acts p inbox network e rmState aState (leader-took p inbox network e taken) kind .0
+      leader-phase1a kind = Leader.phase1a-acts rmState aState took kind .0
 
       -- kind 6: Phase2a, its conditions read from the inbox; what the action sends, what N gains and what the inbox gains is one message
       pub leader-phase2a : kindOf e ≡ 6
@@ -224,21 +229,21 @@ module _ (p : Plan) (inbox network e : List ℕ) where
           × (phase2a (highOf e) (lowOf e) (acts .1 .2) ≡ messageOf (proposed p inbox e))
           × Sends p network (proposed p inbox e) (leader .answer) (leader .network)
           × Stores p inbox (proposed p inbox e) (leader .table)
-      leader-phase2a kind = Leader.phase2a-acts p inbox network e rmState aState (leader-took p inbox network e taken) kind .0
+      leader-phase2a kind = Leader.phase2a-acts rmState aState took kind .0
 
       -- kind 7: Decide to commit
       pub leader-commit : kindOf e ≡ 7
           → CommitAction p seen (leaderState p network rmState aState) (leaderState p (leader .network) rmState aState)
           × Sends p network (Decision 1) (leader .answer) (leader .network)
           × (leader .table ≡ inbox)
-      leader-commit kind = Leader.commit-acts p inbox network e rmState aState (leader-took p inbox network e taken) kind .0
+      leader-commit kind = Leader.commit-acts rmState aState took (DecidedIn p seen) (reads-inbox p _) kind .0
 
       -- kind 8: Decide to abort
       pub leader-abort : kindOf e ≡ 8
           → AbortAction p seen (leaderState p network rmState aState) (leaderState p (leader .network) rmState aState)
           × Sends p network (Decision 2) (leader .answer) (leader .network)
           × (leader .table ≡ inbox)
-      leader-abort kind = Leader.abort-acts p inbox network e rmState aState (leader-took p inbox network e taken) kind .0
+      leader-abort kind = Leader.abort-acts rmState aState took (DecidedIn p seen) (reads-inbox p _) kind .0
 
 -- a ballot above 0 has exactly one owner among the leaders of the plan
 pub one-owner : (p : Plan) → isPlan p ≡ true → (b : ℕ) → 0 < b

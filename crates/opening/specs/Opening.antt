@@ -1,6 +1,7 @@
 -- The four tables of an order record, their lengths and opening them (document 01, "The plan and four tables", and rows 1 and 2 of "Refusals by
 -- place").
 --     Tables, tablesOf                   W, Q, N and I
+--     withStates, withVotes, withNetwork, withInboxes     one of them exchanged
 --     inboxSize, areLengths              the bytes of each of the L equal parts of I; row 2
 --     openJudged                         rows 1 and 2
 --     zeroed, Opening, openingOf, opened, recordOpen     opening a record: every byte zero
@@ -28,6 +29,19 @@ pub record Tables : Type 0 where
 -- the record of four tables
 abbrev pub tablesOf : List ℕ → List ℕ → List ℕ → List ℕ → Tables
 tablesOf states votes network inboxes = record { states = states; votes = votes; network = network; inboxes = inboxes }
+
+-- the tables with one of them exchanged
+abbrev pub withStates : Tables → List ℕ → Tables
+withStates t states = tablesOf states (t .votes) (t .network) (t .inboxes)
+
+abbrev pub withVotes : Tables → List ℕ → Tables
+withVotes t votes = tablesOf (t .states) votes (t .network) (t .inboxes)
+
+abbrev pub withNetwork : Tables → List ℕ → Tables
+withNetwork t network = tablesOf (t .states) (t .votes) network (t .inboxes)
+
+abbrev pub withInboxes : Tables → List ℕ → Tables
+withInboxes t inboxes = tablesOf (t .states) (t .votes) (t .network) inboxes
 
 -- the bytes of each of the L equal parts of I
 unfoldable pub inboxSize : Plan → List ℕ → ℕ

@@ -156,7 +156,7 @@ module _ (p : Plan) (t : Tables) (e : List ℕ) where
             let member = led p e is (omega (arith, h)) k in
             rw (is, lt-leb (kindOf e) 2 (omega (arith, h)), ne-eqb (kindOf e) 3 k)
             (inbox-applied p (whoOf e) t member (leaderOn p (t .inboxes) (t .network) e)
-            (leader-changes p (viewBytes p (inboxOf p (t .inboxes) (whoOf e))) (viewBytes p (t .network)) e)
+            (leader-changes p _ (viewBytes p (inboxOf p (t .inboxes) (whoOf e))) (viewBytes p (t .network)) e)
             ∙ ap (onInbox p (whoOf e) t)
             (Leader.step-sound p (inboxOf p (t .inboxes) (whoOf e)) (t .network) e (sym (judged-leader p t (sound p t ok) (whoOf e) member)) _ refl))
 

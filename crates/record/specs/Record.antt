@@ -23,7 +23,7 @@ use Rattle.event.specs.Event.{kindOf, whoOf, isEvent}
 use Rattle.rm.specs.Rm.{rmStep}
 use Rattle.acceptor.specs.Acceptor.{acceptorStep}
 use Rattle.leader.specs.Leader.{leaderStep}
-pub use Rattle.opening.specs.Opening.{Tables, tablesOf, Opening, openingOf, opened}
+pub use Rattle.opening.specs.Opening.{Tables, tablesOf, withStates, withVotes, withNetwork, withInboxes, Opening, openingOf, opened}
 unfoldable pub use Rattle.opening.specs.Opening.{inboxSize, areLengths, openJudged, zeroed, recordOpen}
 unfoldable pub use Rattle.judging.specs.Judging.{inboxOf, areInboxes, recordJudged}
 
@@ -46,13 +46,13 @@ recordRefusal t number = record { answer = refused number; tables = t }
 
 -- a resource manager's step on W and N, an acceptor's on Q and N, leader l's on its inbox and N; everything else as it was
 abbrev pub onStates : Tables → Step → RecordStep
-onStates t s = record { answer = s .answer; tables = tablesOf (s .table) (t .votes) (s .network) (t .inboxes) }
+onStates t s = record { answer = s .answer; tables = withNetwork (withStates t (s .table)) (s .network) }
 
 abbrev pub onVotes : Tables → Step → RecordStep
-onVotes t s = record { answer = s .answer; tables = tablesOf (t .states) (s .table) (s .network) (t .inboxes) }
+onVotes t s = record { answer = s .answer; tables = withNetwork (withVotes t (s .table)) (s .network) }
 
 abbrev pub onInbox : Plan → ℕ → Tables → Step → RecordStep
-onInbox p l t s = record { answer = s .answer; tables = tablesOf (t .states) (t .votes) (s .network) (withInbox p (t .inboxes) l (s .table)) }
+onInbox p l t s = record { answer = s .answer; tables = withNetwork (withInboxes t (withInbox p (t .inboxes) l (s .table))) (s .network) }
 
 -- kinds 0 to 2 are a resource manager's, 3 an acceptor's, 4 to 8 a leader's; a role's step judges its own tables again, to no effect
 unfoldable pub roleStep : Plan → Tables → List ℕ → RecordStep

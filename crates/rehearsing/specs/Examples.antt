@@ -23,7 +23,7 @@ use Rattle.acceptor.specs.Acceptor.{voteAt, voteOf, phase1b, phase2b, acceptorJ
 use Rattle.quorum.specs.Quorum.{countAcceptors, isMajority, isQuorum}
 use Rattle.inbox.specs.Inbox.{any, is1b, is2a, is2b, higher, reportOf, highestReport, proposal, chosen, isChosen2b, decided, forAll, forSome}
 use Rattle.leader.specs.Leader.{owns, leaderJudged, receiptStore, receipt, phase1a, phase2aMessage, keepOwn, sendBoth, phase2a, sendOnly, decideSend}
-use Rattle.leader.specs.Leader.{leaderKind, leaderVerdict, leaderStep}
+use Rattle.leader.specs.Leader.{leaderKind, leaderVerdictBy, leaderStepBy}
 use Rattle.ending.specs.Ending.{areAll, endingOf}
 use Rattle.record.specs.Record.{inboxSize, areLengths, inboxOf, withInbox, areInboxes, recordJudged, roleStep, recordStep}
 use Rattle.rehearsal_input.specs.Input.{planIn, eventsIn}
@@ -78,7 +78,7 @@ unfolding examples andThen refuseIf isPlan isCount isValue isVote isInRange byte
     sameMessage placeFrom placeIn messageAt sending slotNumber whoLimit areZero areArguments isEvent areStates rmJudged rmChoose rmReceiveDecision
     rmReceive rmKind rmVerdict rmStep voteAt isVoteState areVotes acceptorJudged voteOf phase1b phase2b acceptorReceive acceptorVerdict
     acceptorStep countAcceptors isMajority isQuorum any is1b is2a is2b higher reportOf highestReport proposal chosen isChosen2b decided forAll forSome
-    owns leaderJudged receiptStore receipt phase1a phase2aMessage keepOwn sendBoth phase2a sendOnly decideSend leaderKind leaderVerdict leaderStep
+    owns leaderJudged receiptStore receipt phase1a phase2aMessage keepOwn sendBoth phase2a sendOnly decideSend leaderKind leaderVerdictBy leaderStepBy
     inboxSize areLengths inboxOf withInbox areInboxes recordJudged roleStep recordStep areAll endingOf
     planIn eventsIn callsIn freshTables line textOf printedFor rehearsed
 examples-hold = refl

@@ -24,6 +24,7 @@ use Rattle.event.specs.Event.Laws.{event-parts}
 use Rattle.tcommit.specs.TCommit.Laws.{except-cases}
 use Rattle.paxos_commit.specs.PaxosCommit.{Val, Message, AState, phase2a, Send, PCNext}
 use Rattle.paxos_commit.specs.PaxosCommit.Safety.Leader.{phase2a-of-part, decide-commit-of-part, decide-abort-of-part}
+use Rattle.inbox.specs.Inbox.{decided}
 use Rattle.leader.specs.Leader.{owns, leaderStep}
 use Rattle.phase2a.specs.Phase2a.Laws.{one-owner, owns-above}
 use Rattle.matching.specs.Reading.{isRM, isAcceptor, isMajoritySet, messageOf, setOf}
@@ -182,8 +183,8 @@ module _ (p : Plan) (s : System) (g : Grounded p s) (e : List ℕ) where
     pub leader-claim : Claim p s leader l r (sentBy p r)
     leader-claim = go (ℕ-discrete (kindOf e) 4) (ℕ-discrete (kindOf e) 5) (ℕ-discrete (kindOf e) 6) (ℕ-discrete (kindOf e) 7)
       where
-        took : Leader.Took p inbox network e
-        took = Leader.took p inbox network e taken
+        took : Leader.Took p (decided p (messages p inbox)) inbox network e
+        took = Leader.took p _ inbox network e taken
 
         go : Dec (kindOf e ≡ 4) → Dec (kindOf e ≡ 5) → Dec (kindOf e ≡ 6) → Dec (kindOf e ≡ 7) → Claim p s leader l r (sentBy p r)
         go (yes k) d5 d6 d7 =

@@ -50,12 +50,12 @@ module _ (p : Plan) (s : System) (g : Grounded p s) where
       → step role k e ≡ refusal (s .hosts role k .table) (s .hosts role k .network) j
   keeps rm k e = RmLaws.keeps p _ _ e
   keeps acceptor k e = AcceptorLaws.keeps p _ _ e
-  keeps leader k e = LeaderLaws.keeps p _ _ e
+  keeps leader k e = LeaderLaws.keeps p _ _ _ e
 
   event : (role : Role) (k : ℕ) (e : List ℕ) → Accepted (step role k e .answer) → isEvent p e ≡ true
   event rm k e taken = RmLaws.took p _ _ e taken .event
   event acceptor k e taken = AcceptorLaws.took p _ _ e taken .event
-  event leader k e taken = LeaderTook.took p _ _ e taken .event
+  event leader k e taken = LeaderTook.took p _ _ _ e taken .event
 
   -- the host that the event names
   own : (role : Role) (e : List ℕ) → Accepted (step role (whoOf e) e .answer) → Claim p s role (whoOf e) (step role (whoOf e) e) (sentBy p (step role (whoOf e) e))

@@ -26,7 +26,7 @@ use Rattle.tcommit.specs.RmState.{committed, aborted}
 use Rattle.paxos_commit.specs.PaxosCommit.{AState, Commit, Abort}
 use Rattle.acceptor.specs.Acceptor.{acceptorReceive}
 use Rattle.leader.specs.Leader.{owns, receipt, phase1a, phase2aMessage, sendBoth, phase2a, leaderKind}
-use Rattle.record.specs.Record.{Tables, tablesOf, withInbox, RecordStep, onStates, onVotes, onInbox, recordStep}
+use Rattle.record.specs.Record.{Tables, withStates, withVotes, withNetwork, withInboxes, withInbox, RecordStep, onStates, onVotes, onInbox, recordStep}
 use Rattle.record.specs.Record.Parts.{with-inboxOf}
 use Rattle.message.specs.Plan.Laws.{plan-bounds}
 use Rattle.matching.specs.Reading.{messageOf, rmStateOf, aStateOf}
@@ -41,7 +41,7 @@ use Rattle.matching.specs.Leader.Laws as Leader
 use Rattle.matching.specs.Theorems as Match
 use Rattle.conformance.specs.Record.{ownInbox, Acted, prepares, chooses-to-abort, receives-commit, receives-abort, promises, casts-vote}
 use Rattle.conformance.specs.Record.{receives, opens-ballot, proposes, commits, aborts}
-use Rattle.conformance.specs.Record.Steps.{Role, rm, acceptor, leader, roleOf, rmPart, acceptorPart, leaderPart}
+use Rattle.conformance.specs.Record.Steps.{Role, rm, acceptor, leader, roleOf, rmPart, acceptorPart, leaderPart, ownDecided}
 use Rattle.conformance.specs.Record.Steps.{role-rm, role-acceptor, role-leader, Taken, taken}
 
 -- a leader takes only 1b and 2b messages
@@ -74,12 +74,11 @@ module _ (p : Plan) (t : Tables) (e : List ℕ) where
       took = Rm.took p (t .states) (t .network) e ok
 
       with-states : {w : List ℕ} → rmPart p t e .table ≡ w
-          → onStates t (rmPart p t e) .tables ≡ tablesOf w (t .votes) (rmPart p t e .network) (t .inboxes)
-      with-states is = ap (λ (w : List ℕ). tablesOf w (t .votes) (rmPart p t e .network) (t .inboxes)) is
+          → onStates t (rmPart p t e) .tables ≡ withNetwork (withStates t w) (rmPart p t e .network)
+      with-states is = ap (λ (w : List ℕ). withNetwork (withStates t w) (rmPart p t e .network)) is
 
-      with-both : {w n : List ℕ} → rmPart p t e .table ≡ w → rmPart p t e .network ≡ n
-          → onStates t (rmPart p t e) .tables ≡ tablesOf w (t .votes) n (t .inboxes)
-      with-both is kept = ap₂ (λ (w n : List ℕ). tablesOf w (t .votes) n (t .inboxes)) is kept
+      with-both : {w : List ℕ} → rmPart p t e .table ≡ w → rmPart p t e .network ≡ t .network → onStates t (rmPart p t e) .tables ≡ withStates t w
+      with-both is kept = ap₂ (λ (w n : List ℕ). withNetwork (withStates t w) n) is kept
 
       go : Dec (kindOf e ≡ 0) → Dec (kindOf e ≡ 1) → Does (onStates t (rmPart p t e))
       go (yes k) d = let (a, s, w) = Match.rm-prepare p (t .states) (t .network) e q ok k in prepares k who a s (with-states w)
@@ -110,8 +109,8 @@ module _ (p : Plan) (t : Tables) (e : List ℕ) where
       who = acceptor-who p e event kind
 
       with-votes : {v : List ℕ} → acceptorPart p t e .table ≡ v
-          → onVotes t (acceptorPart p t e) .tables ≡ tablesOf (t .states) v (acceptorPart p t e .network) (t .inboxes)
-      with-votes is = ap (λ (v : List ℕ). tablesOf (t .states) v (acceptorPart p t e .network) (t .inboxes)) is
+          → onVotes t (acceptorPart p t e) .tables ≡ withNetwork (withVotes t v) (acceptorPart p t e .network)
+      with-votes is = ap (λ (v : List ℕ). withNetwork (withVotes t v) (acceptorPart p t e .network)) is
 
       go : (m : Wire.Message) → InSlot p (t .network) e m → (change : Change)
           → acceptorReceive p (t .votes) (viewTable p (t .network)) (whoOf e) m ≡ accepted change → Does (onVotes t (acceptorPart p t e))
@@ -130,20 +129,20 @@ module _ (p : Plan) (t : Tables) (e : List ℕ) where
       who : whoOf e < p .leaders
       who = leader-who p e (sure .event-is) large
 
-      took : LeaderTook.Took p (ownInbox p t e) (t .network) e
-      took = LeaderTook.took p (ownInbox p t e) (t .network) e ok
+      took : LeaderTook.Took p (ownDecided p t e) (ownInbox p t e) (t .network) e
+      took = LeaderTook.took p (ownDecided p t e) (ownInbox p t e) (t .network) e ok
 
       -- the inbox keeps its bytes, and so does I
       same-inboxes : leaderPart p t e .table ≡ ownInbox p t e
-          → onInbox p (whoOf e) t (leaderPart p t e) .tables ≡ tablesOf (t .states) (t .votes) (leaderPart p t e .network) (t .inboxes)
+          → onInbox p (whoOf e) t (leaderPart p t e) .tables ≡ withNetwork t (leaderPart p t e .network)
       same-inboxes is =
           let back = with-inboxOf p (t .inboxes) (whoOf e) (plan-bounds p (sure .tables .plan) .leaders-least) who in
-          ap (λ (i : List ℕ). tablesOf (t .states) (t .votes) (leaderPart p t e .network) i) (ap (withInbox p (t .inboxes) (whoOf e)) is ∙ back)
+          ap (λ (i : List ℕ). withNetwork (withInboxes t i) (leaderPart p t e .network)) (ap (withInbox p (t .inboxes) (whoOf e)) is ∙ back)
 
       same-network : leaderPart p t e .network ≡ t .network
           → onInbox p (whoOf e) t (leaderPart p t e) .tables
-          ≡ tablesOf (t .states) (t .votes) (t .network) (withInbox p (t .inboxes) (whoOf e) (leaderPart p t e .table))
-      same-network is = ap (λ (n : List ℕ). tablesOf (t .states) (t .votes) n (withInbox p (t .inboxes) (whoOf e) (leaderPart p t e .table))) is
+          ≡ withInboxes t (withInbox p (t .inboxes) (whoOf e) (leaderPart p t e .table))
+      same-network is = ap (λ (n : List ℕ). withNetwork (withInboxes t (withInbox p (t .inboxes) (whoOf e) (leaderPart p t e .table))) n) is
 
       owned-1a : kindOf e ≡ 5 → owns p (whoOf e) (lowOf e) ≡ true
       owned-1a kind =

@@ -24,7 +24,7 @@ use Rattle.event.specs.Event.{kindOf, whoOf, highOf, lowOf}
 use Rattle.tcommit.specs.RmState.{prepared, committed, aborted}
 use Rattle.paxos_commit.specs.PaxosCommit.{Commit, Abort}
 use Rattle.acceptor.specs.Acceptor.{voteAt}
-use Rattle.record.specs.Record.{Tables, tablesOf, withInbox}
+use Rattle.record.specs.Record.{Tables, withStates, withVotes, withNetwork, withInboxes, withInbox}
 use Rattle.matching.specs.Reading.{messageOf}
 use Rattle.matching.specs.Call.{roomOf, SlotHolds, Sends, Stores}
 use Rattle.matching.specs.Acceptor.{reportOf, InSlot}
@@ -54,59 +54,72 @@ sends-one p network m {a} {b} {u} {v} h k =
     go there here (no l) (no g) = omega arith
 
 module _ (p : Plan) (t : Tables) (e : List ℕ) where
-  abbrev SentWith : Wire.Message → List ℕ → List ℕ → List ℕ → Outcome Sent → Tables → Type 0
-  SentWith m states votes inboxes answer u = Sends p (t .network) m answer (u .network) × (u ≡ tablesOf states votes (u .network) inboxes)
+  -- what is sent is all that N gains; every other table is as in `left`
+  abbrev SentWith : Wire.Message → Tables → Outcome Sent → Tables → Type 0
+  SentWith m left answer u = Sends p (t .network) m answer (u .network) × (u ≡ withNetwork left (u .network))
 
-  abbrev QuietWith : List ℕ → List ℕ → List ℕ → Outcome Sent → Tables → Type 0
-  QuietWith states votes inboxes answer u = (answer ≡ accepted Quiet) × (u ≡ tablesOf states votes (t .network) inboxes)
+  abbrev QuietWith : Tables → Outcome Sent → Tables → Type 0
+  QuietWith left answer u = (answer ≡ accepted Quiet) × (u ≡ left)
 
   module _ {a b : Outcome Sent} {u v : Tables} where
-    sent-one : (m : Wire.Message) (states votes inboxes : List ℕ) → SentWith m states votes inboxes a u → SentWith m states votes inboxes b v
-        → (a ≡ b) × (u ≡ v)
-    sent-one m states votes inboxes (h, is) (k, was) =
+    sent-one : (m : Wire.Message) (left : Tables) → SentWith m left a u → SentWith m left b v → (a ≡ b) × (u ≡ v)
+    sent-one m left (h, is) (k, was) =
         let (answer, network) = sends-one p (t .network) m h k in
-        (answer, is ∙ ap (λ (n : List ℕ). tablesOf states votes n inboxes) network ∙ sym was)
+        (answer, is ∙ ap (withNetwork left) network ∙ sym was)
 
-    quiet-one : (states votes inboxes : List ℕ) → QuietWith states votes inboxes a u → QuietWith states votes inboxes b v → (a ≡ b) × (u ≡ v)
-    quiet-one states votes inboxes (h, is) (k, was) = (h ∙ sym k, is ∙ sym was)
+    quiet-one : (left : Tables) → QuietWith left a u → QuietWith left b v → (a ≡ b) × (u ≡ v)
+    quiet-one left (h, is) (k, was) = (h ∙ sym k, is ∙ sym was)
 
   -- the first of the three bytes of Q of the instance and the acceptor
   abbrev at : ℕ → ℕ
   at ins = voteAt p ins (whoOf e)
 
+  -- the tables with the event's weight in another state, with its acceptor's promise, its vote, or another inbox of its leader
+  abbrev moved : ℕ → Tables
+  moved state = withStates t (set (t .states) (whoOf e) state)
+
+  abbrev promised : ℕ → ℕ → Tables
+  promised ins bal = withVotes t (set (t .votes) (at ins) bal)
+
+  abbrev voted : ℕ → ℕ → ℕ → Tables
+  voted ins bal val = withVotes t (set (set (set (t .votes) (at ins) bal) (at ins + 1) bal) (at ins + 2) val)
+
+  abbrev heard : List ℕ → Tables
+  heard inbox = withInboxes t (withInbox p (t .inboxes) (whoOf e) inbox)
+
   abbrev Decides : Outcome Sent → Tables → Type 0
   Decides answer u =
-      (SlotHolds p (t .network) e (λ m. messageOf m ≡ Commit) × QuietWith (set (t .states) (whoOf e) committed) (t .votes) (t .inboxes) answer u)
-      ⊎ (SlotHolds p (t .network) e (λ m. messageOf m ≡ Abort) × QuietWith (set (t .states) (whoOf e) aborted) (t .votes) (t .inboxes) answer u)
+      (SlotHolds p (t .network) e (λ m. messageOf m ≡ Commit) × QuietWith (moved committed) answer u)
+      ⊎ (SlotHolds p (t .network) e (λ m. messageOf m ≡ Abort) × QuietWith (moved aborted) answer u)
 
   abbrev Votes : Outcome Sent → Tables → Type 0
   Votes answer u =
       ((ins bal : ℕ) × InSlot p (t .network) e (Phase1a ins bal)
-      × SentWith (reportOf p (t .votes) (whoOf e) ins bal) (t .states) (set (t .votes) (at ins) bal) (t .inboxes) answer u)
+      × SentWith (reportOf p (t .votes) (whoOf e) ins bal) (promised ins bal) answer u)
       ⊎ ((ins bal val : ℕ) × InSlot p (t .network) e (Phase2a ins bal val)
-      × SentWith (Phase2b ins (whoOf e) bal val) (t .states) (set (set (set (t .votes) (at ins) bal) (at ins + 1) bal) (at ins + 2) val) (t .inboxes) answer u)
+      × SentWith (Phase2b ins (whoOf e) bal val) (voted ins bal val) answer u)
 
   abbrev Receives : Outcome Sent → Tables → Type 0
   Receives answer u =
       (m : Wire.Message) × InSlot p (t .network) e m
       × ((inbox : List ℕ) × Stores p (ownInbox p t e) m inbox
-      × QuietWith (t .states) (t .votes) (withInbox p (t .inboxes) (whoOf e) inbox) answer u)
+      × QuietWith (heard inbox) answer u)
 
   abbrev Proposes : Outcome Sent → Tables → Type 0
   Proposes answer u =
       (inbox : List ℕ) × Stores p (ownInbox p t e) (proposed p (ownInbox p t e) e) inbox
-      × SentWith (proposed p (ownInbox p t e) e) (t .states) (t .votes) (withInbox p (t .inboxes) (whoOf e) inbox) answer u
+      × SentWith (proposed p (ownInbox p t e) e) (heard inbox) answer u
 
   abbrev Given : ℕ → Outcome Sent → Tables → Type 0
-  Given zero = SentWith (Phase2a (whoOf e) 0 1) (set (t .states) (whoOf e) prepared) (t .votes) (t .inboxes)
-  Given (suc zero) = SentWith (Phase2a (whoOf e) 0 2) (set (t .states) (whoOf e) aborted) (t .votes) (t .inboxes)
+  Given zero = SentWith (Phase2a (whoOf e) 0 1) (moved prepared)
+  Given (suc zero) = SentWith (Phase2a (whoOf e) 0 2) (moved aborted)
   Given (suc (suc zero)) = Decides
   Given (suc (suc (suc zero))) = Votes
   Given (suc (suc (suc (suc zero)))) = Receives
-  Given (suc (suc (suc (suc (suc zero))))) = SentWith (Phase1a (highOf e) (lowOf e)) (t .states) (t .votes) (t .inboxes)
+  Given (suc (suc (suc (suc (suc zero))))) = SentWith (Phase1a (highOf e) (lowOf e)) t
   Given (suc (suc (suc (suc (suc (suc zero)))))) = Proposes
-  Given (suc (suc (suc (suc (suc (suc (suc zero))))))) = SentWith (Decision 1) (t .states) (t .votes) (t .inboxes)
-  Given (suc (suc (suc (suc (suc (suc (suc (suc k)))))))) = SentWith (Decision 2) (t .states) (t .votes) (t .inboxes)
+  Given (suc (suc (suc (suc (suc (suc (suc zero))))))) = SentWith (Decision 1) t
+  Given (suc (suc (suc (suc (suc (suc (suc (suc k)))))))) = SentWith (Decision 2) t
 
   -- the slot holds one message
   one-slot : {m n : Wire.Message} → InSlot p (t .network) e m → InSlot p (t .network) e n → m ≡ n
@@ -114,18 +127,18 @@ module _ (p : Plan) (t : Tables) (e : List ℕ) where
 
   module _ {a b : Outcome Sent} {u v : Tables} where
     decides-one : Decides a u → Decides b v → (a ≡ b) × (u ≡ v)
-    decides-one (inl (m, q)) (inl (n, r)) = quiet-one _ _ _ q r
-    decides-one (inr (m, q)) (inr (n, r)) = quiet-one _ _ _ q r
+    decides-one (inl (m, q)) (inl (n, r)) = quiet-one _ q r
+    decides-one (inr (m, q)) (inr (n, r)) = quiet-one _ q r
     decides-one (inl ((m, held, is), q)) (inr ((n, holds, was), r)) = let same = one-slot held holds in let z : _≡_ {A = ℕ} 0 1 = cc in absurd (omega arith)
     decides-one (inr ((m, held, is), q)) (inl ((n, holds, was), r)) = let same = one-slot held holds in let z : _≡_ {A = ℕ} 0 1 = cc in absurd (omega arith)
 
     votes-one : Votes a u → Votes b v → (a ≡ b) × (u ≡ v)
     votes-one (inl (i, c, held, s)) (inl (j, d, holds, r)) =
         let same = one-slot held holds in let x : i ≡ j = cc in let y : c ≡ d = cc in
-        sent-one _ _ _ _ (rw (x, y) at s) r
+        sent-one _ (promised j d) (rw (x, y) at s) r
     votes-one (inr (i, c, w, held, s)) (inr (j, d, x, holds, r)) =
         let same = one-slot held holds in let f : i ≡ j = cc in let g : c ≡ d = cc in let h : w ≡ x = cc in
-        sent-one _ _ _ _ (rw (f, g, h) at s) r
+        sent-one _ (voted j d x) (rw (f, g, h) at s) r
     votes-one (inl (i, c, held, s)) (inr (j, d, x, holds, r)) = let same = one-slot held holds in let z : _≡_ {A = ℕ} 0 1 = cc in absurd (omega arith)
     votes-one (inr (i, c, w, held, s)) (inl (j, d, holds, r)) = let same = one-slot held holds in let z : _≡_ {A = ℕ} 0 1 = cc in absurd (omega arith)
 
@@ -133,23 +146,23 @@ module _ (p : Plan) (t : Tables) (e : List ℕ) where
     receives-one (m, held, (box, h, q)) (n, holds, (case, k, r)) =
         let same = one-slot held holds in
         let one = stores-one p (ownInbox p t e) n (rw same at h) k in
-        quiet-one _ _ _ (rw one at q) r
+        quiet-one _ (rw one at q) r
 
     proposes-one : Proposes a u → Proposes b v → (a ≡ b) × (u ≡ v)
     proposes-one (box, h, s) (case, k, r) =
         let one = stores-one p (ownInbox p t e) (proposed p (ownInbox p t e) e) h k in
-        sent-one _ _ _ _ (rw one at s) r
+        sent-one _ (heard case) (rw one at s) r
 
     given-one : (k : ℕ) → Given k a u → Given k b v → (a ≡ b) × (u ≡ v)
-    given-one zero = sent-one _ _ _ _
-    given-one (suc zero) = sent-one _ _ _ _
+    given-one zero = sent-one _ (moved prepared)
+    given-one (suc zero) = sent-one _ (moved aborted)
     given-one (suc (suc zero)) = decides-one
     given-one (suc (suc (suc zero))) = votes-one
     given-one (suc (suc (suc (suc zero)))) = receives-one
-    given-one (suc (suc (suc (suc (suc zero))))) = sent-one _ _ _ _
+    given-one (suc (suc (suc (suc (suc zero))))) = sent-one _ t
     given-one (suc (suc (suc (suc (suc (suc zero)))))) = proposes-one
-    given-one (suc (suc (suc (suc (suc (suc (suc zero))))))) = sent-one _ _ _ _
-    given-one (suc (suc (suc (suc (suc (suc (suc (suc k)))))))) = sent-one _ _ _ _
+    given-one (suc (suc (suc (suc (suc (suc (suc zero))))))) = sent-one _ t
+    given-one (suc (suc (suc (suc (suc (suc (suc (suc k)))))))) = sent-one _ t
 
   given : {a : Outcome Sent} {u : Tables} → Acted p t e a u → Given (kindOf e) a u
   given (prepares kind rm acts sent same) = rw kind (sent, same)

@@ -19,14 +19,14 @@ use Rattle.rm.specs.Rm.{rmJudged, rmVerdict, rmStep}
 use Rattle.rm.specs.Rm.Laws as RmSound
 use Rattle.acceptor.specs.Acceptor.{acceptorJudged, acceptorVerdict, acceptorStep}
 use Rattle.acceptor.specs.Acceptor.Sound as AcceptorSound
-use Rattle.leader.specs.Leader.{leaderJudged, leaderVerdict, leaderStep}
+use Rattle.leader.specs.Leader.{leaderJudged, leaderVerdictBy, leaderStepBy, leaderStep}
 use Rattle.leader.specs.Leader.Sound as LeaderSound
 use Rattle.record.specs.Record.{Tables, inboxSize, inboxOf, recordJudged, RecordStep, recordStep}
 use Rattle.record.specs.Record.Parts.{length-inboxOf, inboxOf-with-other}
 use Rattle.record.specs.Record.Laws.{judged-leader}
 use Rattle.matching.specs.Leader.Laws as Leader
 use Rattle.conformance.specs.Record.{ownInbox}
-use Rattle.conformance.specs.Record.Steps.{Role, rm, acceptor, leader, roleOf, leaderPart, role-rm, role-acceptor, role-leader, Taken, taken, keeps}
+use Rattle.conformance.specs.Record.Steps.{Role, rm, acceptor, leader, roleOf, leaderPart, ownDecided, role-rm, role-acceptor, role-leader, Taken, taken, keeps}
 
 module _ (p : Plan) (t : Tables) (e : List ℕ) where
   -- the inboxes of leader l before the call and after it
@@ -49,7 +49,7 @@ module _ (p : Plan) (t : Tables) (e : List ℕ) where
 
           size : length (leaderPart p t e .table) ≡ inboxSize p (t .inboxes)
           size =
-              let (j, l, n) = Leader.stays-sound p (ownInbox p t e) (t .network) e (judged-leader p t (u .tables) (whoOf e) who) in
+              let (j, l, n) = Leader.stays-sound p (ownDecided p t e) (ownInbox p t e) (t .network) e (judged-leader p t (u .tables) (whoOf e) who) in
               l ∙ length-inboxOf p (t .inboxes) (whoOf e) some who
 
           other : (kindOf e ≤ 3) ⊎ (l ≡ whoOf e → ⊥) → Kept l (recordStep p t e)
@@ -77,5 +77,5 @@ module _ (p : Plan) (e : List ℕ) (none : isEvent p e ≡ false) where
   no-event-acceptor votes network sound = rw (sound, AcceptorSound.sound p votes network sound .plan, none)
 
   pub no-event-leader : (inbox network : List ℕ) → leaderJudged p inbox network ≡ accepted tt → leaderStep p inbox network e .answer ≡ refused 7
-  unfolding leaderStep leaderVerdict andThen refuseIf
+  unfolding leaderStepBy leaderVerdictBy andThen refuseIf
   no-event-leader inbox network sound = rw (sound, LeaderSound.sound p inbox network sound .plan, none)

@@ -26,13 +26,13 @@ use Rattle.inbox.specs.Inbox.Quantifiers.{forAll-all, all-forAll}
 use Rattle.rm.specs.Rm.{areStates, rmJudged, rmVerdict, rmStep}
 use Rattle.votes.specs.Votes.{areVotes}
 use Rattle.acceptor.specs.Acceptor.{acceptorJudged, acceptorVerdict, acceptorStep}
-use Rattle.leader.specs.Leader.{leaderJudged, leaderVerdict, leaderStep}
+use Rattle.leader.specs.Leader.{leaderJudged, leaderVerdictBy, leaderStepBy}
 use Rattle.record.specs.Record.{Tables, inboxSize, inboxOf, areLengths, areInboxes, recordJudged, RecordStep, recordRefusal}
 use Rattle.record.specs.Record.{onStates, onVotes, onInbox, roleStep, settled, recordStep}
 use Rattle.record.specs.Record.Parts.{length-inboxOf, with-inboxOf}
 use Rattle.record.specs.Record.Laws.{sound}
 use Rattle.conformance.specs.Record.{ownInbox, SoundStates, SoundVotes, SoundInboxes, SoundOthers}
-use Rattle.conformance.specs.Record.Steps.{rmPart, acceptorPart, leaderPart, role-rm, role-acceptor, role-leader}
+use Rattle.conformance.specs.Record.Steps.{rmPart, acceptorPart, leaderPart, ownDecided, role-rm, role-acceptor, role-leader}
 
 -- the chain of `recordJudged`: the plan, the lengths of W, Q and N, the parts of I and their length, and the four contents
 abbrev Chain : Bool → Bool → Bool → Bool → Bool → Bool → Bool → Bool → Bool → Bool → Outcome (Unit {0})
@@ -146,12 +146,12 @@ module _ (p : Plan) (t : Tables) (e : List ℕ) where
         (isTable p (ownInbox p t e)))
 
     pub leader-agrees : 3 < kindOf e → recordStep p t e ≡ onInbox p (whoOf e) t (leaderPart p t e)
-    unfolding recordStep leaderStep leaderVerdict leaderJudged refuseIf
+    unfolding recordStep leaderStepBy leaderVerdictBy leaderJudged refuseIf
     leader-agrees large =
         let back = with-inboxOf p (t .inboxes) (whoOf e) (omega arith) member in
         rw judged-as-leader
         (agree t e p (leaderJudged p (ownInbox p t e) (t .network)) (roleStep p t e)
-        (leaderVerdict p (viewTable p (ownInbox p t e)) (viewTable p (t .network)) e)
+        (leaderVerdictBy p (ownDecided p t e) (viewTable p (ownInbox p t e)) (viewTable p (t .network)) e)
         (λ o. onInbox p (whoOf e) t (applied p (ownInbox p t e) (t .network) o)) (λ k. rw back)
         (λ event is. rw (plan-judged (isPlan p) 1 _ tt is, event)) (role-leader p t e large))
 

@@ -16,7 +16,7 @@ use Rattle.message.specs.Outcome.{Outcome, accepted, refused, andThen, refuseIf
 use Rattle.message.specs.Plan.{isPlan}
 use Rattle.message.specs.Rows.{Rows, end, guard, row, here, below}
 use Rattle.message.specs.Rows.Laws.{Ruled, ruled-skip}
-use Rattle.slots.specs.Table.{isTableLength, isTable}
+use Rattle.slots.specs.Table.{isTableLength, isTable, messages}
 use Rattle.change.specs.declared.Sent.{Sent}
 use Rattle.event.specs.Event.{kindOf, whoOf, isEvent}
 use Rattle.inbox.specs.Inbox.Quantifiers.{forAll-all, forAll-fails}
@@ -25,16 +25,17 @@ use Rattle.votes.specs.Votes.{areVotes}
 use Rattle.record.specs.Record.{Tables, inboxSize, areLengths, areInboxes, recordJudged, RecordStep, roleStep, settled, recordStep}
 use Rattle.record.specs.Record.Laws.{Sound, Lengths, lengths, sound-of, inbox-whole}
 use Rattle.event.specs.Event.Laws.{leader-who}
-use Rattle.matching.specs.Reading.{rmStateOf, aStateOf}
+use Rattle.matching.specs.Reading.{rmStateOf, aStateOf, setOf}
 use Rattle.matching.specs.Rm as Rm
 use Rattle.matching.specs.Rm.Ruled.{rm-ruled}
 use Rattle.matching.specs.Acceptor as Acceptor
 use Rattle.matching.specs.Acceptor.Ruled.{acceptor-ruled}
 use Rattle.matching.specs.Leader as Leader
+use Rattle.matching.specs.Leader.Conditions.{reads-inbox}
 use Rattle.matching.specs.Leader.Ruled.{leader-ruled}
 use Rattle.matching.specs.Call.{SlotUnused, SlotHolds}
 use Rattle.conformance.specs.Record.{recordState, ownInbox, WrongLengths, NotTaken, Disabled, Full, recordRows}
-use Rattle.conformance.specs.Record.Steps.{Role, rm, acceptor, leader, roleOf, rmPart, acceptorPart, leaderPart, role-rm, role-acceptor, role-leader}
+use Rattle.conformance.specs.Record.Steps.{Role, rm, acceptor, leader, roleOf, rmPart, acceptorPart, leaderPart, ownDecided, role-rm, role-acceptor, role-leader}
 
 module _ {A : Type 0} (o : Outcome A) where
   -- a row that does not apply, at the head of the rows
@@ -216,7 +217,8 @@ module _ (p : Plan) (t : Tables) (e : List ℕ) where
         (tail by-leader 5 _ _ (no-false (s .network-ordered))
         (tail by-leader 2 _ _ (λ h. ⊎-elim (no-false (inbox-whole p t s (whoOf e) (leader-who p e event large))) (no-false (s .network-whole)) h)
         (tail by-leader 1 _ _ (no-false (s .plan))
-        (leader-ruled p (ownInbox p t e) (t .network) e (rmStateOf (t .states)) (aStateOf p (t .votes))))))))
+        (leader-ruled p (ownDecided p t e) (Leader.DecidedIn p (setOf (messages p (ownInbox p t e)))) (ownInbox p t e) (t .network) e (reads-inbox p _)
+        (rmStateOf (t .states)) (aStateOf p (t .votes))))))))
       where
         not-taken : NotTaken p t e → (kindOf e ≡ 4) × SlotHolds p (t .network) e (λ m. Leader.isReceived m ≡ false)
         not-taken (inl h) = absurd (omega (arith, h .0))

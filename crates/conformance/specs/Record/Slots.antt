@@ -31,6 +31,7 @@ use Rattle.rm.specs.Rm.{rmStep}
 use Rattle.rm.specs.Rm.Laws as RmSound
 use Rattle.acceptor.specs.Acceptor.{acceptorReceive, acceptorStep}
 use Rattle.acceptor.specs.Acceptor.Sound as AcceptorSound
+use Rattle.inbox.specs.Inbox.{decided}
 use Rattle.leader.specs.Leader.{receipt, leaderKind, leaderStep}
 use Rattle.leader.specs.Leader.Sound as LeaderSound
 use Rattle.matching.specs.Call.{roomOf, Sends}
@@ -166,12 +167,12 @@ module _ (p : Plan) (e : List ℕ) (s : ℕ) where
       first : ℕ → ℕ → AState
       first i a = initial
 
-      took : LeaderTook.Took p inbox network e
-      took = LeaderTook.took p inbox network e (Slot s, is)
+      took : LeaderTook.Took p (decided p (messages p inbox)) inbox network e
+      took = LeaderTook.took p (decided p (messages p inbox)) inbox network e (Slot s, is)
 
       after : LeaderSound.Sound p (leaderStep p inbox network e .table) (leaderStep p inbox network e .network)
       after =
-          let (j, l, n) = Leader.stays-sound p inbox network e (LeaderSound.judged p inbox network (took .tables)) in
+          let (j, l, n) = Leader.stays-sound p (decided p (messages p inbox)) inbox network e (LeaderSound.judged p inbox network (took .tables)) in
           LeaderSound.sound p (leaderStep p inbox network e .table) (leaderStep p inbox network e .network) j
 
       by : (m : Wire.Message) → Sends p network m (leaderStep p inbox network e .answer) (leaderStep p inbox network e .network) → s < maxSlots

@@ -17,7 +17,7 @@ use Rattle.message.specs.declared.Plan.{Plan}
 use Rattle.message.specs.Outcome.{Outcome, accepted, refused, andThen, refuseIf}
 use Rattle.message.specs.Outcome.Laws.{accepted-not-refused}
 use Rattle.message.specs.Plan.Laws.{plan-bounds}
-use Rattle.slots.specs.Table.{isTable}
+use Rattle.slots.specs.Table.{isTable, messages}
 use Rattle.change.specs.declared.Sent.{Sent}
 use Rattle.change.specs.Change.{Step}
 use Rattle.event.specs.Event.{kindOf, whoOf, isEvent}
@@ -26,6 +26,7 @@ use Rattle.rm.specs.Rm.{rmStep}
 use Rattle.rm.specs.Rm.Laws as RmSound
 use Rattle.acceptor.specs.Acceptor.{acceptorStep}
 use Rattle.acceptor.specs.Acceptor.Sound as AcceptorSound
+use Rattle.inbox.specs.Inbox.{decided}
 use Rattle.leader.specs.Leader.{leaderStep}
 use Rattle.leader.specs.Leader.Sound as LeaderSound
 use Rattle.record.specs.Record.{Tables, inboxSize, inboxOf, withInbox, recordJudged, RecordStep, recordRefusal, onStates, onVotes, onInbox}
@@ -59,6 +60,10 @@ module _ (p : Plan) (t : Tables) (e : List ℕ) where
 
   abbrev pub leaderPart : Step
   leaderPart = leaderStep p (ownInbox p t e) (t .network) e
+
+  -- the test of that leader's kinds 7 and 8
+  abbrev pub ownDecided : ℕ → ℕ → Bool
+  ownDecided = decided p (messages p (ownInbox p t e))
 
   pub role-rm : kindOf e ≤ 2 → roleStep p t e ≡ onStates t rmPart
   unfolding roleStep
@@ -105,7 +110,7 @@ module _ (p : Plan) (t : Tables) (e : List ℕ) where
           same ∙ ap (onVotes t) (Acceptor.keeps p (t .votes) (t .network) e k (ap (λ (r : RecordStep). r .answer) (sym same) ∙ is))
       go (leader h) is =
           let same = role-leader h in
-          let kept = Leader.keeps p (ownInbox p t e) (t .network) e k (ap (λ (r : RecordStep). r .answer) (sym same) ∙ is) in
+          let kept = Leader.keeps p ownDecided (ownInbox p t e) (t .network) e k (ap (λ (r : RecordStep). r .answer) (sym same) ∙ is) in
           let back = with-inboxOf p (t .inboxes) (whoOf e) (plan-bounds p (s .plan) .leaders-least) (leader-who p e event h) in
           same ∙ ap (onInbox p (whoOf e) t) kept ∙ rw back
 
@@ -162,7 +167,7 @@ module _ (p : Plan) (t : Tables) (e : List ℕ) where
           })
       go (leader h) =
           let member = leader-who p e event h in
-          let (j, l, n) = Leader.stays-sound p (ownInbox p t e) (t .network) e (judged-leader p t s (whoOf e) member) in
+          let (j, l, n) = Leader.stays-sound p ownDecided (ownInbox p t e) (t .network) e (judged-leader p t s (whoOf e) member) in
           let r = LeaderSound.sound p _ _ j in
           let size = l ∙ length-inboxOf p (t .inboxes) (whoOf e) some member in
           let same = length-withInbox p (t .inboxes) (whoOf e) some member (leaderPart .table) size in

@@ -12,7 +12,7 @@ use Rattle.message.specs.Plan.{isPlan}
 use Rattle.slots.specs.View.{View}
 use Rattle.change.specs.Change.Updates.{IsInbox, Changes, changes-refuseIf, changes-cond, changes-andThen, changes-sending}
 use Rattle.event.specs.Event.{kindOf, whoOf, highOf, lowOf, slotNumber, isEvent}
-use Rattle.leader.specs.Leader.{owns, phase2aMessage, keepOwn, sendBoth, phase2a, receiptStore, receipt, sendOnly, phase1a, decideSend, leaderKind, leaderVerdict}
+use Rattle.leader.specs.Leader.{owns, phase2aMessage, keepOwn, sendBoth, phase2a, receiptStore, receipt, sendOnly, phase1a, decideSend, leaderKind, leaderVerdictBy}
 
 receipt-changes : (box : View) (m : Message) → Changes IsInbox (receipt box m)
 unfolding receipt receiptStore
@@ -36,9 +36,9 @@ propose-changes p box net who i b =
     changes-andThen IsInbox (phase2aMessage p (box .messages) who i b) _ (λ m.
     changes-sending IsInbox 13 (net .send m) _ (λ slot store. changes-sending IsInbox 14 (box .send m) _ (λ place kept. tt)))
 
-pub leader-changes : (p : Plan) (box net : View) (e : List ℕ) → Changes IsInbox (leaderVerdict p box net e)
-unfolding leaderVerdict leaderKind phase1a
-leader-changes p box net e =
+pub leader-changes : (p : Plan) (isDecided : ℕ → ℕ → Bool) (box net : View) (e : List ℕ) → Changes IsInbox (leaderVerdictBy p isDecided box net e)
+unfolding leaderVerdictBy leaderKind phase1a
+leader-changes p isDecided box net e =
     changes-refuseIf IsInbox (not (isPlan p)) 1 _
     (changes-refuseIf IsInbox (not (isEvent p e)) 7 _
     (changes-refuseIf IsInbox (ltb (kindOf e) 4) 7 _

@@ -5,6 +5,7 @@
 --     voted-seen, seen-voted           a 2b of (i, b, v) from an acceptor
 --     among, quorum-majority, majority-quorum, majority-some     a test that a majority passes
 --     decided-Decided, Decided-decided Decided(i, v)
+--     reads-inbox                      so a leader that tests its inbox tests that
 -- Assumes nothing.
 use Prim.Native.Nat.{ℕ, zero, suc, _+_, _≤_, _<_, zero-le, suc-le-suc}
 use mathlib.Core.Bool.{Bool, true, false, _&&_, _||_, cond, false≢true}
@@ -24,7 +25,9 @@ use Rattle.quorum.specs.Quorum.{countAcceptors, isMajority, isQuorum}
 use Rattle.quorum.specs.Quorum.Laws.{quorum-some}
 use Rattle.inbox.specs.Inbox.{any, is1b, is2a, is2b, chosen, isChosen2b, decided}
 use Rattle.paxos_commit.specs.PaxosCommit as Source
-use Rattle.matching.specs.Reading.{isRM, isAcceptor, isMajoritySet, valOf, balOf, voteValOf, messageOf, setOf}
+use Rattle.matching.specs.Reading.{isMajoritySet, valOf, balOf, voteValOf, messageOf, setOf}
+use Rattle.matching.specs.Leader.{DecidedIn}
+use Rattle.matching.specs.Leader.Decided.{Reads}
 
 -- some message passes exactly when a member does
 module _ (test : Message → Bool) where
@@ -228,7 +231,7 @@ module _ (p : Plan) (MS : ℕ → Bool) (m : isMajoritySet p MS) where
 
 module _ (p : Plan) (ms : List Message) where
   abbrev Decided : ℕ → Source.Val → Type 0
-  Decided = Source.Decided (isRM p) (isAcceptor p) (isMajoritySet p) (setOf ms)
+  Decided = DecidedIn p (setOf ms)
 
   of-chosen : (i v : ℕ) (m : Message) → isChosen2b p ms i v m ≡ true → (b : ℕ) × (chosen p ms i b v ≡ true)
   unfolding isChosen2b
@@ -257,3 +260,6 @@ module _ (p : Plan) (ms : List Message) where
       let q : chosen p ms i b v ≡ true = majority-quorum p (d .1) (d .2) _ (λ ac t. seen-voted ms i b p r v h ac (d .3 ac t)) in
       member-any (isChosen2b p ms i v) ms (Phase2b i (a .0) b v) (member-2b ms i b p r v h (a .0) (d .3 (a .0) (a .1)))
       (and-true (eqb i i) _ (eq-eqb i i refl) (and-true (eqb v v) _ (eq-eqb v v refl) q))
+
+  pub reads-inbox : allInRange p ms ≡ true → Reads (decided p ms) Decided
+  reads-inbox r i v h = (decided-Decided i v, Decided-decided r i v h)

@@ -1,4 +1,4 @@
--- The tests of a leader's step and the published actions' conditions, over the messages in the inbox: where the tests hold the action
+-- The tests of a leader's step and the published actions' conditions, over the messages in the inbox and what is decided: where the tests hold the action
 -- leads to every state that sends its message, and an enabled action passes them.
 --     Joins, joining, joins-joining                 a message was sent, and nothing else changed; there is such a state
 --     phase2a-acts, phase2a-new, phase2a-quorum     kind 6
@@ -17,16 +17,16 @@ use Rattle.message.specs.Outcome.Laws.{both}
 use Rattle.message.specs.Form.{isValue}
 use Rattle.slots.specs.Table.Holds.{allInRange}
 use Rattle.quorum.specs.Quorum.{isQuorum}
-use Rattle.inbox.specs.Inbox.{any, is1b, is2a, highestReport, proposal, decided, forAll, forSome}
+use Rattle.inbox.specs.Inbox.{any, is1b, is2a, highestReport, proposal, forAll, forSome}
 use Rattle.paxos_commit.specs.PaxosCommit as Source
 use Rattle.paxos_commit.specs.PaxosCommit.{State}
 use Rattle.matching.specs.Reading.{isRM, isAcceptor, isMajoritySet, valOf, setOf}
 use Rattle.matching.specs.Call.{Enabled}
-use Rattle.matching.specs.Leader.{Phase2aAction, CommitAction, AbortAction}
+use Rattle.matching.specs.Leader.{Phase2aAction, CommitBy, AbortBy}
+use Rattle.matching.specs.Leader.Decided.{Reads}
 use Rattle.matching.specs.Leader.Conditions.{phase2a-seen, seen-phase2a, reported-seen, seen-reported, among}
 use Rattle.matching.specs.Leader.Conditions.{quorum-majority, majority-quorum}
 use Rattle.inbox.specs.Inbox.Quantifiers.{forAll-all, all-forAll, forSome-some, some-forSome}
-use Rattle.matching.specs.Leader.Conditions.{decided-Decided, Decided-decided}
 use Rattle.matching.specs.Leader.Highest.{proposed-value}
 
 -- s′ is s with x sent, and nothing else
@@ -84,7 +84,7 @@ module _ (p : Plan) (ms : List Wire.Message) (i b : ℕ) where
       refl,
     )
 
-module _ (p : Plan) (ms : List Wire.Message) (s : State) where
+module _ (p : Plan) (isDecided : ℕ → ℕ → Bool) (Decided : ℕ → Source.Val → Type 0) (reads : Reads isDecided Decided) (s : State) where
   one : isValue 1 ≡ true
   unfolding isValue
   one = refl
@@ -93,17 +93,16 @@ module _ (p : Plan) (ms : List Wire.Message) (s : State) where
   unfolding isValue
   two = refl
 
-  pub commit-acts : forAll (p .rms) (λ i. decided p ms i 1) ≡ true → (s′ : State) → Joins p Source.Commit s s′ → CommitAction p (setOf ms) s s′
-  commit-acts g s′ j = ((λ rm k. decided-Decided p ms rm 1 (forAll-all _ (p .rms) g rm k)), j .sends, j .rm-same, j .acceptor-same)
+  pub commit-acts : forAll (p .rms) (λ i. isDecided i 1) ≡ true → (s′ : State) → Joins p Source.Commit s s′ → CommitBy p Decided s s′
+  commit-acts g s′ j = ((λ rm k. reads rm 1 one .0 (forAll-all _ (p .rms) g rm k)), j .sends, j .rm-same, j .acceptor-same)
 
-  pub abort-acts : forSome (p .rms) (λ i. decided p ms i 2) ≡ true → (s′ : State) → Joins p Source.Abort s s′ → AbortAction p (setOf ms) s s′
+  pub abort-acts : forSome (p .rms) (λ i. isDecided i 2) ≡ true → (s′ : State) → Joins p Source.Abort s s′ → AbortBy p Decided s s′
   abort-acts g s′ j =
       let d = forSome-some _ (p .rms) g in
-      ((d .0, d .1, decided-Decided p ms (d .0) 2 (d .2)), j .sends, j .rm-same, j .acceptor-same)
+      ((d .0, d .1, reads (d .0) 2 two .0 (d .2)), j .sends, j .rm-same, j .acceptor-same)
 
-  module _ (r : allInRange p ms ≡ true) where
-    pub commit-test : Enabled p (CommitAction p (setOf ms)) s → forAll (p .rms) (λ i. decided p ms i 1) ≡ true
-    commit-test a = all-forAll _ (p .rms) (λ rm k. Decided-decided p ms r rm 1 one (a .1 .0 rm k))
+  pub commit-test : Enabled p (CommitBy p Decided) s → forAll (p .rms) (λ i. isDecided i 1) ≡ true
+  commit-test a = all-forAll _ (p .rms) (λ rm k. reads rm 1 one .1 (a .1 .0 rm k))
 
-    pub abort-test : Enabled p (AbortAction p (setOf ms)) s → forSome (p .rms) (λ i. decided p ms i 2) ≡ true
-    abort-test a = let d = a .1 .0 in some-forSome _ (p .rms) (d .0) (d .1) (Decided-decided p ms r (d .0) 2 two (d .2))
+  pub abort-test : Enabled p (AbortBy p Decided) s → forSome (p .rms) (λ i. isDecided i 2) ≡ true
+  abort-test a = let d = a .1 .0 in some-forSome _ (p .rms) (d .0) (d .1) (reads (d .0) 2 two .1 (d .2))

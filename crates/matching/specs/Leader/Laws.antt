@@ -23,7 +23,7 @@ use Rattle.message.specs.Outcome.Laws.{accepted-inj, refuseIf-accepted}
 use Rattle.message.specs.Plan.{isPlan}
 use Rattle.message.specs.Form.{isValue, isInRange}
 use Rattle.slots.specs.Table.{messages}
-use Rattle.slots.specs.Table.Holds.{holds-judged}
+use Rattle.slots.specs.Table.Holds.{allInRange, holds-judged}
 use Rattle.slots.specs.Send.{messageAt}
 use Rattle.slots.specs.View.{viewTable}
 use Rattle.change.specs.declared.Sent.{Sent}
@@ -33,26 +33,28 @@ use Rattle.change.specs.Change.{refusal}
 use Rattle.change.specs.Change.Laws.{refused-keeps}
 use Rattle.event.specs.Event.{kindOf, whoOf, highOf, lowOf, slotNumber}
 use Rattle.event.specs.Event.Laws.{event-parts, event-instance}
-use Rattle.inbox.specs.Inbox.{highestReport, proposal, decided, forAll, forSome}
+use Rattle.inbox.specs.Inbox.{highestReport, proposal, forAll, forSome}
 use Rattle.paxos_commit.specs.PaxosCommit as Source
 use Rattle.paxos_commit.specs.PaxosCommit.{AState, State}
 use Rattle.leader.specs.Leader.{owns, leaderJudged, receipt, phase1a, phase2aMessage, sendBoth, phase2a, decideSend}
-use Rattle.leader.specs.Leader.{leaderKind, leaderVerdict, leaderStep}
+use Rattle.leader.specs.Leader.{leaderKind, leaderVerdictBy, leaderStepBy}
 use Rattle.phase2a.specs.Phase2a.Laws as Owners
 use Rattle.leader.specs.Leader.Sound.{judged}
 use Rattle.matching.specs.Reading.{messageOf, setOf}
 use Rattle.matching.specs.Call.{Stores, Sends}
 use Rattle.matching.specs.Call.Laws.{member-at, andThen-accepted}
-use Rattle.matching.specs.Leader.{Phase1aAction, Phase2aAction, CommitAction, AbortAction, proposed, Reports}
+use Rattle.matching.specs.Leader.{Phase1aAction, Phase2aAction, CommitBy, AbortBy, proposed, Reports}
+use Rattle.matching.specs.Leader.Decided.{DecidedBy, Reads, reads-by}
 use Rattle.matching.specs.Leader.Conditions.{in-range}
 use Rattle.matching.specs.Leader.Highest.{highest-first, highest-none, proposal-value}
 use Rattle.matching.specs.Leader.Guards as Guards
 use Rattle.matching.specs.Leader.Took.{Took, took, receipt-stores, before, next, SoundAfter}
 use Rattle.matching.specs.Leader.Took.{inbox-range, only-acts, both-acts, store-acts}
 
-module _ (p : Plan) (inbox network e : List ℕ) (rmState : ℕ → ℕ) (aState : ℕ → ℕ → AState) (t : Took p inbox network e) where
+module _ {p : Plan} {isDecided : ℕ → ℕ → Bool} {inbox network e : List ℕ} (rmState : ℕ → ℕ) (aState : ℕ → ℕ → AState)
+    (t : Took p isDecided inbox network e) where
   abbrev after : Step
-  after = leaderStep p inbox network e
+  after = leaderStepBy p isDecided inbox network e
 
   -- the tables are sound after it
   abbrev Still : Type 0
@@ -130,24 +132,26 @@ module _ (p : Plan) (inbox network e : List ℕ) (rmState : ℕ → ℕ) (aState
       let (acts, same) = Guards.phase2a-acts p (messages p inbox) (highOf e) (lowOf e) _ range (new .0) (not-false _ (quorum .0)) _ j in
       ((acts, same, sends, stores), s)
 
-  -- kinds 7 and 8
-  pub commit-acts : kindOf e ≡ 7 → Acts (CommitAction p (setOf (messages p inbox))) (Decision 1) × Still
+  -- kinds 7 and 8, by what the test reads as decided
+  pub commit-acts : (Decided : ℕ → Source.Val → Type 0) → (allInRange p (messages p inbox) ≡ true → Reads isDecided Decided)
+      → kindOf e ≡ 7 → Acts (CommitBy p Decided) (Decision 1) × Still
   unfolding leaderKind decideSend isInRange isValue
-  commit-acts kind =
-      let got : decideSend (viewTable p network) (forAll (p .rms) (λ i. decided p (messages p inbox) i 1)) 1 ≡ accepted (t .change)
+  commit-acts Decided reads kind =
+      let got : decideSend (viewTable p network) (forAll (p .rms) (λ i. isDecided i 1)) 1 ≡ accepted (t .change)
       = rw kind at (t .verdict) in
       let all = refuseIf-accepted _ _ _ _ got in
       let ((j, sends), kept, s) = only-acts p inbox network e rmState aState t (Decision 1) refl (all .1) in
-      ((Guards.commit-acts p (messages p inbox) _ (not-false _ (all .0)) _ j, sends, kept), s)
+      ((Guards.commit-acts p isDecided Decided (reads (inbox-range p inbox network e rmState aState t)) _ (not-false _ (all .0)) _ j, sends, kept), s)
 
-  pub abort-acts : kindOf e ≡ 8 → Acts (AbortAction p (setOf (messages p inbox))) (Decision 2) × Still
+  pub abort-acts : (Decided : ℕ → Source.Val → Type 0) → (allInRange p (messages p inbox) ≡ true → Reads isDecided Decided)
+      → kindOf e ≡ 8 → Acts (AbortBy p Decided) (Decision 2) × Still
   unfolding leaderKind decideSend isInRange isValue
-  abort-acts kind =
-      let got : decideSend (viewTable p network) (forSome (p .rms) (λ i. decided p (messages p inbox) i 2)) 2 ≡ accepted (t .change)
+  abort-acts Decided reads kind =
+      let got : decideSend (viewTable p network) (forSome (p .rms) (λ i. isDecided i 2)) 2 ≡ accepted (t .change)
       = rw kind at (t .verdict) in
       let some = refuseIf-accepted _ _ _ _ got in
       let ((j, sends), kept, s) = only-acts p inbox network e rmState aState t (Decision 2) refl (some .1) in
-      ((Guards.abort-acts p (messages p inbox) _ (not-false _ (some .0)) _ j, sends, kept), s)
+      ((Guards.abort-acts p isDecided Decided (reads (inbox-range p inbox network e rmState aState t)) _ (not-false _ (some .0)) _ j, sends, kept), s)
 
   -- an accepted step by its kind
   still-sound : Still
@@ -157,34 +161,36 @@ module _ (p : Plan) (inbox network e : List ℕ) (rmState : ℕ → ℕ) (aState
       go true c d f h4 h5 h6 h7 = receipt-some (eqb-true _ _ h4) .3
       go false true d f h4 h5 h6 h7 = phase1a-acts (eqb-true _ _ h5) .1
       go false false true f h4 h5 h6 h7 = phase2a-acts (eqb-true _ _ h6) .1
-      go false false false true h4 h5 h6 h7 = commit-acts (eqb-true _ _ h7) .1
+      go false false false true h4 h5 h6 h7 = commit-acts (DecidedBy isDecided) (λ _. reads-by isDecided) (eqb-true _ _ h7) .1
       go false false false false h4 h5 h6 h7 =
           let n4 : kindOf e ≡ 4 → ⊥ = eqb-false _ _ h4 in
           let n5 : kindOf e ≡ 5 → ⊥ = eqb-false _ _ h5 in
           let n6 : kindOf e ≡ 6 → ⊥ = eqb-false _ _ h6 in
           let n7 : kindOf e ≡ 7 → ⊥ = eqb-false _ _ h7 in
-          abort-acts (omega (arith, t .least, event-parts p e (t .event) .kind)) .1
+          abort-acts (DecidedBy isDecided) (λ _. reads-by isDecided) (omega (arith, t .least, event-parts p e (t .event) .kind)) .1
 
-module _ (p : Plan) (inbox network e : List ℕ) where
-  pub keeps : (k : ℕ) → leaderStep p inbox network e .answer ≡ refused k → leaderStep p inbox network e ≡ refusal inbox network k
-  unfolding leaderStep
+module _ (p : Plan) (isDecided : ℕ → ℕ → Bool) (inbox network e : List ℕ) where
+  pub keeps : (k : ℕ) → leaderStepBy p isDecided inbox network e .answer ≡ refused k
+      → leaderStepBy p isDecided inbox network e ≡ refusal inbox network k
+  unfolding leaderStepBy
   keeps k is =
       refused-keeps p inbox network
-      (andThen (leaderJudged p inbox network) (λ _. leaderVerdict p (viewTable p inbox) (viewTable p network) e)) k is
+      (andThen (leaderJudged p inbox network) (λ _. leaderVerdictBy p isDecided (viewTable p inbox) (viewTable p network) e)) k is
 
   abbrev Kept : Step → Type 0
   Kept r = (leaderJudged p (r .table) (r .network) ≡ accepted tt) × (length (r .table) ≡ length inbox) × (length (r .network) ≡ length network)
 
-  pub stays-sound : leaderJudged p inbox network ≡ accepted tt → Kept (leaderStep p inbox network e)
-  stays-sound s = go (leaderStep p inbox network e .answer) refl
+  pub stays-sound : leaderJudged p inbox network ≡ accepted tt → Kept (leaderStepBy p isDecided inbox network e)
+  stays-sound s = go (leaderStepBy p isDecided inbox network e .answer) refl
     where
-      go : (answer : Outcome Sent) → leaderStep p inbox network e .answer ≡ answer → Kept (leaderStep p inbox network e)
+      go : (answer : Outcome Sent) → leaderStepBy p isDecided inbox network e .answer ≡ answer → Kept (leaderStepBy p isDecided inbox network e)
       go (accepted a) is =
-          let (after, l, n) = still-sound p inbox network e (λ rm. 0) (λ i ac. Source.initial) (took p inbox network e (a, is)) in
+          let (after, l, n) = still-sound (λ rm. 0) (λ i ac. Source.initial) (took p isDecided inbox network e (a, is)) in
           (judged p _ _ after, l, n)
       go (refused k) is = subst Kept (sym (keeps k is)) (s, refl, refl)
 
-  -- the proposed 2a: of several highest reports the first, and 2 where none reports a vote
+-- the proposed 2a: of several highest reports the first, and 2 where none reports a vote
+module _ (p : Plan) (inbox e : List ℕ) where
   pub proposal-first : (xs ys : List Wire.Message) (a c v : ℕ) → messages p inbox ≡ xs ++ (Phase1b (highOf e) a (lowOf e) (Cast c v) ∷ ys)
       → ((d : ℕ) → Reports xs (highOf e) (lowOf e) d → d < c) → ((d : ℕ) → Reports ys (highOf e) (lowOf e) d → d ≤ c)
       → proposed p inbox e ≡ Phase2a (highOf e) (lowOf e) v

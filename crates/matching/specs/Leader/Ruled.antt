@@ -26,15 +26,16 @@ use Rattle.change.specs.declared.Change.{Change}
 use Rattle.event.specs.Event.{kindOf, whoOf, highOf, lowOf, slotNumber, isEvent}
 use Rattle.event.specs.Event.Laws.{event-parts}
 use Rattle.quorum.specs.Quorum.{isQuorum}
-use Rattle.inbox.specs.Inbox.{any, is1b, is2a, decided, forAll, forSome}
-use Rattle.paxos_commit.specs.PaxosCommit.{AState, State}
+use Rattle.inbox.specs.Inbox.{any, is1b, is2a, forAll, forSome}
+use Rattle.paxos_commit.specs.PaxosCommit.{Val, AState, State}
 use Rattle.leader.specs.Leader.{leaderJudged, receiptStore, receipt, sendOnly, phase1a, phase2aMessage, keepOwn, sendBoth, phase2a, decideSend}
-use Rattle.leader.specs.Leader.{leaderKind, leaderVerdict, leaderStep}
+use Rattle.leader.specs.Leader.{leaderKind, leaderVerdictBy, leaderStepBy}
 use Rattle.matching.specs.Reading.{messageOf, setOf}
 use Rattle.matching.specs.Call.{Enabled, HasRoom, SlotUnused, SlotHolds}
 use Rattle.matching.specs.Call.Laws.{clash, ruled-judged, ruled-judged₂, ruled-sound}
 use Rattle.matching.specs.Call.Laws.{ruled-slot, ruled-sending, ruled-applied}
-use Rattle.matching.specs.Leader.{Phase2aAction, stateOf, isReceived, proposed, NotOwned, Disabled, Full, InboxFull, leaderRows}
+use Rattle.matching.specs.Leader.{Phase2aAction, stateOf, isReceived, proposed, NotOwned, DisabledBy, Full, InboxFull, leaderRowsBy}
+use Rattle.matching.specs.Leader.Decided.{Reads}
 use Rattle.matching.specs.Leader.Guards.{joining, joins-joining, phase2a-new, phase2a-quorum, phase2a-acts}
 use Rattle.matching.specs.Leader.Guards.{commit-acts, commit-test, abort-acts, abort-test}
 
@@ -116,7 +117,8 @@ not-owned-kind : (p : Plan) (e : List ℕ) → NotOwned p e → (kindOf e ≡ 5 
 not-owned-kind p e (inl h, o) n m = n h
 not-owned-kind p e (inr h, o) n m = m h
 
-module _ (p : Plan) (inbox network e : List ℕ) (rmState : ℕ → ℕ) (aState : ℕ → ℕ → AState) where
+module _ (p : Plan) (isDecided : ℕ → ℕ → Bool) (Decided : ℕ → Val → Type 0) (inbox network e : List ℕ)
+    (reads : allInRange p (messages p inbox) ≡ true → Reads isDecided Decided) (rmState : ℕ → ℕ) (aState : ℕ → ℕ → AState) where
   abbrev before : State
   before = stateOf p network rmState aState
 
@@ -130,7 +132,7 @@ module _ (p : Plan) (inbox network e : List ℕ) (rmState : ℕ → ℕ) (aState
   Rows13 = row 13 (Full p inbox network e) Rows14
 
   abbrev Rows12 : Rows
-  Rows12 = guard 12 (Disabled p inbox e before) Rows13
+  Rows12 = guard 12 (DisabledBy p Decided inbox e before) Rows13
 
   abbrev Rows10 : Rows
   Rows10 = row 10 (NotOwned p e) Rows12
@@ -221,24 +223,24 @@ module _ (p : Plan) (inbox network e : List ℕ) (rmState : ℕ → ℕ) (aState
         )
 
     -- kinds 7 and 8
-    commit-ruled : kindOf e ≡ 7 → Ruled (decideSend (viewTable p network) (forAll (p .rms) (λ i. decided p box i 1)) 1) Rows12
+    commit-ruled : kindOf e ≡ 7 → Ruled (decideSend (viewTable p network) (forAll (p .rms) (λ i. isDecided i 1)) 1) Rows12
     unfolding decideSend
     commit-ruled kind =
         ruled-guard _ 12 _ _ _
-        (λ h. below (here (kind, λ a. false≢true (sym (not-true _ h) ∙ commit-test p box before r a))))
-        (λ h k. byKind12 _ _ _ _ k .at7 kind (joining p _ before, commit-acts p box before (not-false _ h) _ (joins-joining p _ before)))
+        (λ h. below (here (kind, λ a. false≢true (sym (not-true _ h) ∙ commit-test p isDecided Decided (reads r) before a))))
+        (λ h k. byKind12 _ _ _ _ k .at7 kind (joining p _ before, commit-acts p isDecided Decided (reads r) before (not-false _ h) _ (joins-joining p _ before)))
         (λ h. only-ruled _ (λ n. inr (inr (inl (kind, n)))) (λ k. byKind13 _ _ _ _ _ k .at7 kind) (λ q. omega arith) (λ q. omega arith))
 
-    abort-ruled : kindOf e ≡ 8 → Ruled (decideSend (viewTable p network) (forSome (p .rms) (λ i. decided p box i 2)) 2) Rows12
+    abort-ruled : kindOf e ≡ 8 → Ruled (decideSend (viewTable p network) (forSome (p .rms) (λ i. isDecided i 2)) 2) Rows12
     unfolding decideSend
     abort-ruled kind =
         ruled-guard _ 12 _ _ _
-        (λ h. below (below (kind, λ a. false≢true (sym (not-true _ h) ∙ abort-test p box before r a))))
-        (λ h k. byKind12 _ _ _ _ k .at8 kind (joining p _ before, abort-acts p box before (not-false _ h) _ (joins-joining p _ before)))
+        (λ h. below (below (kind, λ a. false≢true (sym (not-true _ h) ∙ abort-test p isDecided Decided (reads r) before a))))
+        (λ h k. byKind12 _ _ _ _ k .at8 kind (joining p _ before, abort-acts p isDecided Decided (reads r) before (not-false _ h) _ (joins-joining p _ before)))
         (λ h. only-ruled _ (λ n. inr (inr (inr (kind, n)))) (λ k. byKind13 _ _ _ _ _ k .at8 kind) (λ q. omega arith) (λ q. omega arith))
 
     kind-ruled : 4 ≤ kindOf e → kindOf e ≤ 8
-        → Ruled (leaderKind p (decided p box) (viewTable p inbox) (viewTable p network) e (kindOf e)) Rows8
+        → Ruled (leaderKind p isDecided (viewTable p inbox) (viewTable p network) e (kindOf e)) Rows8
     unfolding leaderKind
     kind-ruled least most = go (eqb (kindOf e) 4) (eqb (kindOf e) 5) (eqb (kindOf e) 6) (eqb (kindOf e) 7) refl refl refl refl
       where
@@ -251,8 +253,8 @@ module _ (p : Plan) (inbox network e : List ℕ) (rmState : ℕ → ℕ) (aState
             (cond b (andThen (messageAt (messages p network) (slotNumber e)) (receipt (viewTable p inbox)))
             (cond c (phase1a p (viewTable p network) (whoOf e) (highOf e) (lowOf e))
             (cond d (phase2a p (viewTable p inbox) (viewTable p network) (whoOf e) (highOf e) (lowOf e))
-            (cond f (decideSend (viewTable p network) (forAll (p .rms) (λ i. decided p box i 1)) 1)
-            (decideSend (viewTable p network) (forSome (p .rms) (λ i. decided p box i 2)) 2)))))
+            (cond f (decideSend (viewTable p network) (forAll (p .rms) (λ i. isDecided i 1)) 1)
+            (decideSend (viewTable p network) (forSome (p .rms) (λ i. isDecided i 2)) 2)))))
             Rows8
         go true c d f h4 h5 h6 h7 =
             let kind : kindOf e ≡ 4 = eqb-true _ _ h4 in
@@ -272,8 +274,8 @@ module _ (p : Plan) (inbox network e : List ℕ) (rmState : ℕ → ℕ) (aState
     abbrev Rows7 : Rows
     Rows7 = row 7 ((isEvent p e ≡ false) ⊎ (kindOf e < 4)) Rows8
 
-    verdict-ruled : isPlan p ≡ true → Ruled (leaderVerdict p (viewTable p inbox) (viewTable p network) e) Rows7
-    unfolding leaderVerdict
+    verdict-ruled : isPlan p ≡ true → Ruled (leaderVerdictBy p isDecided (viewTable p inbox) (viewTable p network) e) Rows7
+    unfolding leaderVerdictBy
     verdict-ruled plan =
         ruled-pass _ 1 _ _ (ap not plan)
         (ruled-both _ _ 7 _ _ _ (λ h. inl (not-true _ h)) (λ h. inr (ltb-true _ _ h)) event
@@ -284,9 +286,9 @@ module _ (p : Plan) (inbox network e : List ℕ) (rmState : ℕ → ℕ) (aState
         event h k (inr n) = let least : 4 ≤ kindOf e = ltb-false _ _ k in omega arith
 
   abbrev verdict : Unit {0} → Outcome Change
-  verdict _ = leaderVerdict p (viewTable p inbox) (viewTable p network) e
+  verdict _ = leaderVerdictBy p isDecided (viewTable p inbox) (viewTable p network) e
 
-  judged-ruled : Ruled (andThen (leaderJudged p inbox network) verdict) (leaderRows p inbox network e before)
+  judged-ruled : Ruled (andThen (leaderJudged p inbox network) verdict) (leaderRowsBy p Decided inbox network e before)
   unfolding leaderJudged
   judged-ruled =
       ruled-judged verdict _ 1 _ _ _ (not-true (isPlan p)) (clash (isPlan p))
@@ -301,6 +303,6 @@ module _ (p : Plan) (inbox network e : List ℕ) (rmState : ℕ → ℕ) (aState
       lengths h k (inl n) = clash _ h n
       lengths h k (inr n) = clash _ k n
 
-  pub leader-ruled : Ruled (leaderStep p inbox network e .answer) (leaderRows p inbox network e before)
-  unfolding leaderStep
-  leader-ruled = ruled-applied p inbox network (leaderRows p inbox network e before) (andThen (leaderJudged p inbox network) verdict) judged-ruled
+  pub leader-ruled : Ruled (leaderStepBy p isDecided inbox network e .answer) (leaderRowsBy p Decided inbox network e before)
+  unfolding leaderStepBy
+  leader-ruled = ruled-applied p inbox network (leaderRowsBy p Decided inbox network e before) (andThen (leaderJudged p inbox network) verdict) judged-ruled

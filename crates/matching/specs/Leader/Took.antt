@@ -4,7 +4,7 @@
 --     store-acts, only-acts, both-acts     a message stored in the inbox, in N, in both
 -- By kind in Laws.antt. Assumes nothing.
 use Prim.Native.Nat.{ℕ, _≤_}
-use mathlib.Core.Bool.{true}
+use mathlib.Core.Bool.{Bool, true}
 use mathlib.Core.List.{List}
 use mathlib.Core.Path.{_≡_, refl, sym, _∙_, ap, subst}
 use lib.ListN.{length}
@@ -24,10 +24,9 @@ use Rattle.change.specs.declared.Change.{Change}
 use Rattle.change.specs.declared.Sent.the-variants.{Slot, Quiet}
 use Rattle.change.specs.Change.{Step, applied}
 use Rattle.event.specs.Event.{kindOf, isEvent}
-use Rattle.inbox.specs.Inbox.{decided}
 use Rattle.paxos_commit.specs.PaxosCommit.{AState, State}
 use Rattle.leader.specs.Leader.{leaderJudged, receiptStore, receipt, sendOnly, keepOwn, sendBoth}
-use Rattle.leader.specs.Leader.{leaderKind, leaderVerdict, leaderStep}
+use Rattle.leader.specs.Leader.{leaderKind, leaderVerdictBy, leaderStepBy}
 use Rattle.leader.specs.Leader.Sound.{Sound, sound}
 use Rattle.matching.specs.Reading.{messageOf}
 use Rattle.matching.specs.Call.{Accepted, Stores, Sends}
@@ -36,19 +35,20 @@ use Rattle.matching.specs.Leader.{stateOf}
 use Rattle.matching.specs.Leader.Guards.{Joins}
 
 -- an accepted step
-pub record Took (p : Plan) (inbox network e : List ℕ) : Type 0 where
+pub record Took (p : Plan) (isDecided : ℕ → ℕ → Bool) (inbox network e : List ℕ) : Type 0 where
   pub tables : Sound p inbox network
   pub event : isEvent p e ≡ true
   pub least : 4 ≤ kindOf e
   pub change : Change
-  pub verdict : leaderKind p (decided p (messages p inbox)) (viewTable p inbox) (viewTable p network) e (kindOf e) ≡ accepted change
-  pub step : leaderStep p inbox network e ≡ applied p inbox network (accepted change)
+  pub verdict : leaderKind p isDecided (viewTable p inbox) (viewTable p network) e (kindOf e) ≡ accepted change
+  pub step : leaderStepBy p isDecided inbox network e ≡ applied p inbox network (accepted change)
 
-pub took : (p : Plan) (inbox network e : List ℕ) → Accepted (leaderStep p inbox network e .answer) → Took p inbox network e
-unfolding leaderStep leaderVerdict
-took p inbox network e (a, is) =
+pub took : (p : Plan) (isDecided : ℕ → ℕ → Bool) (inbox network e : List ℕ) → Accepted (leaderStepBy p isDecided inbox network e .answer)
+    → Took p isDecided inbox network e
+unfolding leaderStepBy leaderVerdictBy
+took p isDecided inbox network e (a, is) =
     let c = applied-accepted p inbox network _ a is in
-    let j = andThen-accepted (leaderJudged p inbox network) (λ _. leaderVerdict p (viewTable p inbox) (viewTable p network) e) (c .0) (c .1) in
+    let j = andThen-accepted (leaderJudged p inbox network) (λ _. leaderVerdictBy p isDecided (viewTable p inbox) (viewTable p network) e) (c .0) (c .1) in
     let plan = refuseIf-accepted _ _ _ _ (j .2) in
     let event = refuseIf-accepted _ _ _ _ (plan .1) in
     let least = refuseIf-accepted _ _ _ _ (event .1) in
@@ -85,9 +85,9 @@ module _ (p : Plan) (inbox network e : List ℕ) (rmState : ℕ → ℕ) (aState
   abbrev pub Sending : Wire.Message → Step → Type 0
   Sending m r = Joins p (messageOf m) before (next r) × Sends p network m (r .answer) (r .network)
 
-  module _ (t : Took p inbox network e) where
+  module _ {isDecided : ℕ → ℕ → Bool} (t : Took p isDecided inbox network e) where
     abbrev pub after : Step
-    after = leaderStep p inbox network e
+    after = leaderStepBy p isDecided inbox network e
 
     abbrev pub took-by : Outcome Change → Type 0
     took-by o = o ≡ accepted (t .change)

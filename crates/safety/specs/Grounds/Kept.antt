@@ -24,7 +24,7 @@ use Rattle.paxos_commit.specs.PaxosCommit.Safety.Leader.{inv-phase1a, inv-phase
 use Rattle.paxos_commit.specs.PaxosCommit.Safety.Acceptor.{inv-phase1b, inv-phase2b}
 use Rattle.leader.specs.Leader.{owns}
 use Rattle.phase2a.specs.Phase2a.Laws.{one-owner, owns-above}
-use Rattle.record.specs.Record.{Tables, tablesOf, inboxSize, withInbox}
+use Rattle.record.specs.Record.{Tables, inboxSize, withInbox}
 use Rattle.record.specs.Record.Laws.{Sound, inbox-whole}
 use Rattle.record.specs.Record.Parts.{length-inboxOf}
 use Rattle.matching.specs.Reading.{isRM, isAcceptor, isMajoritySet, messageOf}
@@ -56,7 +56,7 @@ unowned-other p m h l b i v o e = false≢true (sym h ∙ ap isProposal (sym e))
 pub unowned-zero : (p : Plan) (j : ℕ) (w : Val) → Unowned p (phase2a j 0 w)
 unowned-zero p j w l b i v o e = let d : b ≡ 0 = cc in let above = owns-above p b l o in omega arith
 
-same-inboxes : {t′ : Tables} {states votes network inboxes : List ℕ} → t′ ≡ tablesOf states votes network inboxes → t′ .inboxes ≡ inboxes
+same-inboxes : {t′ u : Tables} → t′ ≡ u → t′ .inboxes ≡ u .inboxes
 same-inboxes same = ap (λ (u : Tables). u .inboxes) same
 
 module _ (p : Plan) (t : Tables) (e : List ℕ) (answer : Outcome Sent) (t′ : Tables) (g : Grounded p t) (s : Sound p t′) where

@@ -5,7 +5,7 @@
 use Prim.Native.Nat.{ℕ, suc, _<_, zero-le, suc-le-suc}
 use mathlib.Core.List.{List, [], _∷_, List·Memᴰ, List·Memᴰ·head, List·Memᴰ·tail, List·Memᴰ·not-nil}
 use mathlib.Core.Logic.{_⊎_, inl, inr}
-use mathlib.Core.Path.{_≡_, sym, _∙_, ap}
+use mathlib.Core.Path.{_≡_, refl, sym, _∙_, ap}
 use lib.ListN.{length, getD}
 use lib.Seq.{ext-getD}
 use Rattle.message.specs.declared.Plan.{Plan}
@@ -16,7 +16,7 @@ use Rattle.tcommit.specs.RmState.{committed, aborted}
 use Rattle.tcommit.specs.TCommit.{TCNext, TCStep}
 use Rattle.paxos_commit.specs.PaxosCommit.Safety.Rm.{tc-rm-prepare, tc-rm-choose-to-abort, tc-rm-rcv-commit, tc-rm-rcv-abort}
 use Rattle.paxos_commit.specs.PaxosCommit.Safety.Agreement.{consistent}
-use Rattle.record.specs.Record.{Tables, tablesOf}
+use Rattle.record.specs.Record.{Tables}
 use Rattle.record.specs.Record.Laws.{Sound}
 use Rattle.matching.specs.Reading.{isRM, rmStateOf}
 use Rattle.matching.specs.Theorems.{majorities-meet}
@@ -51,8 +51,8 @@ module _ (p : Plan) (t : Tables) (g : Grounded p t) where
     size = s .one-each ∙ sym (g .sound .one-each)
 
     -- W is not the event's
-    stays : {votes network inboxes : List ℕ} → t′ ≡ tablesOf (t .states) votes network inboxes → Path p (t .states) (t′ .states)
-    stays same = inl (ap (λ (u : Tables). u .states) same)
+    stays : {u : Tables} → t′ ≡ u → u .states ≡ t .states → Path p (t .states) (t′ .states)
+    stays same kept = inl (ap (λ (u : Tables). u .states) same ∙ kept)
 
     pub path-acted : Acted p t e answer t′ → Path p (t .states) (t′ .states)
     path-acted (prepares kind rm acts sent same) = path-step p _ _ size (tc-rm-prepare (g .inv) (recordState p t′) (whoOf e) rm acts)
@@ -62,10 +62,10 @@ module _ (p : Plan) (t : Tables) (g : Grounded p t) where
         path-step p _ _ size (tc-rm-rcv-commit (g .inv) (recordState p t′) (whoOf e) rm (majorities-meet p .1) acts)
     path-acted (receives-abort kind rm slot acts is same) =
         path-step p _ _ size (tc-rm-rcv-abort (g .inv) (recordState p t′) (whoOf e) rm (majorities-meet p .1) acts)
-    path-acted (promises kind acc ins bal slot acts sent same) = stays same
-    path-acted (casts-vote kind acc ins bal val slot acts sent same) = stays same
-    path-acted (receives kind member m slot taken is box stores same) = stays same
-    path-acted (opens-ballot kind member rm owned acts sent same) = stays same
-    path-acted (proposes kind member rm owned acts is sent box stores same) = stays same
-    path-acted (commits kind member acts sent same) = stays same
-    path-acted (aborts kind member acts sent same) = stays same
+    path-acted (promises kind acc ins bal slot acts sent same) = stays same refl
+    path-acted (casts-vote kind acc ins bal val slot acts sent same) = stays same refl
+    path-acted (receives kind member m slot taken is box stores same) = stays same refl
+    path-acted (opens-ballot kind member rm owned acts sent same) = stays same refl
+    path-acted (proposes kind member rm owned acts is sent box stores same) = stays same refl
+    path-acted (commits kind member acts sent same) = stays same refl
+    path-acted (aborts kind member acts sent same) = stays same refl

@@ -17,7 +17,7 @@ use Rattle.paxos_commit.specs.PaxosCommit.{State, Message, Commit, Abort, Uncha
 use Rattle.paxos_commit.specs.PaxosCommit.Safety.Leader.{phase2a-of-part, decide-commit-of-part, decide-abort-of-part}
 use Rattle.leader.specs.Leader.{owns}
 use Rattle.phase2a.specs.Phase2a.Laws.{owns-above}
-use Rattle.record.specs.Record.{Tables, tablesOf}
+use Rattle.record.specs.Record.{Tables, withInboxes}
 use Rattle.matching.specs.Reading.{isRM, isAcceptor, isMajoritySet, valOf, messageOf}
 use Rattle.matching.specs.Call.{SlotHolds}
 use Rattle.matching.specs.Rm.{RMPrepare, RMChooseToAbort, RMRcvCommitMsg, RMRcvAbortMsg}
@@ -35,7 +35,7 @@ ActsOrReceives p t e t′ =
     ((kindOf e ≡ 4 → ⊥) × PCNext (isRM p) (isAcceptor p) (isMajoritySet p) (recordState p t) (recordState p t′))
     ⊎ ((kindOf e ≡ 4) × Unchanged t t′)
 
-pub unchanged-of : (t : Tables) {t′ : Tables} {inboxes : List ℕ} → t′ ≡ tablesOf (t .states) (t .votes) (t .network) inboxes → Unchanged t t′
+pub unchanged-of : (t : Tables) {t′ : Tables} {inboxes : List ℕ} → t′ ≡ withInboxes t inboxes → Unchanged t t′
 unchanged-of t same = (ap (λ (u : Tables). u .states) same, ap (λ (u : Tables). u .votes) same, ap (λ (u : Tables). u .network) same)
 
 -- an action of PCNext, of a kind that is not the receipt's, to a state s′; or a receipt, by which the variables stay

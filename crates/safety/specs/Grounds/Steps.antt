@@ -21,7 +21,7 @@ use Rattle.slots.specs.Table.{messages}
 use Rattle.slots.specs.Send.{messageAt}
 use Rattle.change.specs.declared.Sent.{Sent}
 use Rattle.tcommit.specs.RmState.{committed, aborted}
-use Rattle.record.specs.Record.{Tables, tablesOf, zeroed, recordJudged, recordStep}
+use Rattle.record.specs.Record.{Tables, zeroed, recordJudged, recordStep}
 use Rattle.record.specs.Record.Laws.{Sound, sound, judged}
 use Rattle.matching.specs.Call.{Sends}
 use Rattle.paxos_commit.specs.PaxosCommit.{State}
@@ -122,7 +122,7 @@ module _ (p : Plan) (t : Tables) (e : List ℕ) where
     slot-sent : {answer : Outcome Sent} {network : List ℕ} {x : Wire.Message} → Sends p (t .network) x answer network → Stands (t .network) → Stands network
     slot-sent {network} {x} sent = stores-slot p (t .network) network x (sent .stores) k m
 
-    slot-quiet : {t′ : Tables} {states votes inboxes : List ℕ} → t′ ≡ tablesOf states votes (t .network) inboxes → Stands (t .network) → Stands (t′ .network)
+    slot-quiet : {t′ u : Tables} → t′ ≡ u → Stands (u .network) → Stands (t′ .network)
     slot-quiet same h = rw same h
 
     slot-acted : {answer : Outcome Sent} {t′ : Tables} → Acted p t e answer t′ → Stands (t .network) → Stands (t′ .network)
