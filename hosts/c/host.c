@@ -453,31 +453,33 @@ static void deliveries(void) {
     free(old);
 }
 
-/* ---- the ballots of each leader, and what the linked call says of them ---- */
+/* ---- the ballots of each leader, also where the plan has no such leader; the linked call says which it owns ---- */
+
+static int stepped_at(uint8_t leaders, uint8_t leader, uint8_t bal) {
+    uint8_t event[PAXOS_COMMIT_EVENT], inbox[PAXOS_COMMIT_SLOT], n[PAXOS_COMMIT_SLOT] = {0};
+    paxos_commit_event_at_ballot(PAXOS_COMMIT_KIND_PHASE_1A, leader, 0, bal, event);
+    return paxos_commit_leader_step(1, 1, leaders, ORDER, inbox, 0, n, sizeof n, event, sizeof event) == 0;
+}
 
 static void ballots(void) {
     unsigned asked = 0, agreed = 0;
-    uint8_t event[PAXOS_COMMIT_EVENT], inbox[PAXOS_COMMIT_SLOT], n[PAXOS_COMMIT_SLOT];
-    for (uint8_t leaders = 1; leaders <= 4; leaders++)
-        for (uint8_t leader = 0; leader < leaders; leader++) {
-            unsigned bal = 0, count = 0, next;
-            printf("leader %u of %u:", leader, leaders);
-            for (; (next = paxos_commit_next_ballot(leaders, leader, (uint8_t)bal)) != 0; bal = next, count++)
-                if (count < 3)
-                    printf(" %u,", next);
-            printf(" ... %u, in all %u ballots\n", bal, count);
-            for (bal = 0; bal <= 255; bal++) {
-                uint32_t answer;
-                memset(n, 0, sizeof n);
-                paxos_commit_event_at_ballot(PAXOS_COMMIT_KIND_PHASE_1A, leader, 0, (uint8_t)bal, event);
-                answer = paxos_commit_leader_step(1, 1, leaders, ORDER, inbox, 0, n, sizeof n, event, sizeof event);
+    for (unsigned leaders = 0; leaders <= 5; leaders++)
+        for (unsigned leader = 0; leader <= 255; leader++) {
+            /* Downwards, so that the lowest above each ballot is known. */
+            uint8_t next = 0;
+            for (unsigned bal = 256; bal-- > 0;) {
+                int owned = leaders <= 4 ? stepped_at((uint8_t)leaders, (uint8_t)leader, (uint8_t)bal)
+                                         : bal > 0 && (bal - 1) % 5 == leader;
                 asked++;
-                agreed += answer == (paxos_commit_owns(leaders, leader, (uint8_t)bal)
-                                         ? 0
-                                         : PAXOS_COMMIT_ANSWER_REFUSED + PAXOS_COMMIT_REFUSAL_NOT_OWNED);
+                agreed += paxos_commit_owns((uint8_t)leaders, (uint8_t)leader, (uint8_t)bal) == owned &&
+                          paxos_commit_next_ballot((uint8_t)leaders, (uint8_t)leader, (uint8_t)bal) == next;
+                if (owned)
+                    next = (uint8_t)bal;
             }
+            if (leader < leaders && leaders <= 4)
+                printf("leader %u of %u: first ballot %u\n", leader, leaders, next);
         }
-    printf("owners: %u of %u as the leader's step answers\n", agreed, asked);
+    printf("ballots: %u of %u right\n", agreed, asked);
 }
 
 /* ---- nine events and all refusals; hosts/rust/tests/header.rs compares them with the Rust crate's ---- */

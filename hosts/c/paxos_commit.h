@@ -1,10 +1,10 @@
 /*
  * The proved Paxos Commit record, for C and C++.
  *
- * The calls are written in Rattle and proved to answer and store exactly what document 01 says, as Papers
- * 1 to 4 of document 02 change it. Each group below is a static library of its own; a host links those that it needs,
- * and none has another role's code. They link into x86-64 programs, position independent or not, and use less than
- * 8 KiB of stack. libhost_message.a wants nothing, the others `memset`.
+ * The calls are written in Rattle and proved to answer and store exactly what document 01 says, as Papers 1
+ * to 4 of document 02 change it. Each group below is a static library of its own; a host links those that it needs, and
+ * none has another role's code. They link into x86-64 programs, position independent or not, and use less than 8 KiB of
+ * stack. libhost_message.a wants nothing, the others `memset`.
  *
  *     libhost_message.a     paxos_commit_read, paxos_commit_write, paxos_commit_length
  *     libhost_deliver.a     paxos_commit_deliver
@@ -275,13 +275,13 @@ static inline void paxos_commit_event_at_ballot(uint8_t kind, uint8_t who, uint8
     event[3] = bal;
 }
 
-/* Whether a leader owns a ballot: leader 0 owns ballot 1, leader 1 ballot 2, and so on by turns; nobody ballot 0. */
+/* Whether a leader owns a ballot: leader 0 owns ballot 1, leader 1 ballot 2, and so on by turns; nobody owns ballot 0. */
 static inline int paxos_commit_owns(uint8_t leaders, uint8_t leader, uint8_t bal) {
     return leaders > 0 && bal > 0 && (bal - 1) % leaders == leader;
 }
 
-/* The lowest ballot above `bal` that the leader owns, to go on with when it has heard of `bal`; above 0, its first. 0
- * where 255 leaves none, and for a number that is no leader's. */
+/* The lowest ballot above `bal` that a leader owns, with which it goes on when it has heard of `bal`; with `bal` 0 its
+ * first. 0 where there is none up to 255, and where `leader` is no leader's number. */
 static inline uint8_t paxos_commit_next_ballot(uint8_t leaders, uint8_t leader, uint8_t bal) {
     unsigned next = bal;
     while (++next <= 255)

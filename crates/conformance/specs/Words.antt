@@ -8,7 +8,7 @@
 --     event-form                    four bytes: the kind, a process of its role, and high and low as the kind asks
 --     event-bytes, vote-place       the order of an event's bytes and the slot that they name; the place of an acceptor's three bytes in Q
 --     owner-rule                    leader l owns ballot b when b > 0 and (b - 1) mod L = l (document 02, Paper 4)
---     owner-turns                   the first ballot of leader l is l + 1, and after each of its ballots the next is the one L further
+--     owner-turns                   leader l's ballots are l + 1, and from there every L-th
 --     range-words                   row 17: what is in range, of each of the six messages
 --     majority-rule                 a majority is a set of acceptors with 2 × size > A
 --     inboxes-joined, inboxes-up-to, inbox-replaced     I is its L inboxes one after the other, each of one size; one is replaced without the others

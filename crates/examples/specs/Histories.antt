@@ -181,10 +181,11 @@ on w q n i e = recordStep order (tablesOf w q n i) e .answer
 abbrev pub unused : List ℕ
 unused = 0 ∷ 0 ∷ 0 ∷ 0 ∷ 0 ∷ 0 ∷ 0 ∷ 0 ∷ []
 
--- kinds 5 and 6 with four leaders: the answer for leader who, and so the owners of ballots (document 02, Paper 4)
-abbrev pub atBallot : ℕ → ℕ → ℕ → Outcome Sent
-atBallot kind who b =
-    recordStep (record { rms = 1; acceptors = 1; leaders = 4; order = 0x0102 }) (tablesOf (0 ∷ []) (0 ∷ 0 ∷ 0 ∷ []) unused []) (kind ∷ who ∷ 0 ∷ b ∷ []) .answer
+-- what leader `who` of so many is answered for kind 5 or 6 at ballot b (document 02, Paper 4)
+abbrev pub atBallot : ℕ → ℕ → ℕ → ℕ → Outcome Sent
+atBallot leaders kind who b =
+    recordStep (record { rms = 1; acceptors = 1; leaders = leaders; order = 0x0102 }) (tablesOf (0 ∷ []) (0 ∷ 0 ∷ 0 ∷ []) unused [])
+    (kind ∷ who ∷ 0 ∷ b ∷ []) .answer
 
 -- each row of "Refusals by place" for the event call, in bytes
 pub refusals :
@@ -205,10 +206,12 @@ pub refusals :
     × (on (0 ∷ []) (0 ∷ 0 ∷ 0 ∷ []) (0x30 ∷ 1 ∷ 1 ∷ 2 ∷ 0 ∷ 0 ∷ 0 ∷ 0 ∷ []) unused (3 ∷ 0 ∷ 0 ∷ 0 ∷ []) ≡ refused 9)
     × (on (0 ∷ []) (0 ∷ 0 ∷ 0 ∷ []) (0x39 ∷ 0 ∷ 0 ∷ 1 ∷ 1 ∷ 2 ∷ 0 ∷ 0 ∷ []) unused (4 ∷ 0 ∷ 0 ∷ 0 ∷ []) ≡ refused 9)
     × (on (0 ∷ []) (0 ∷ 0 ∷ 0 ∷ []) unused unused (5 ∷ 0 ∷ 0 ∷ 0 ∷ []) ≡ refused 10)
-    × (map (atBallot 5 0) (0 ∷ 1 ∷ 2 ∷ 4 ∷ 5 ∷ 253 ∷ []) ≡ refused 10 ∷ accepted (Slot 0) ∷ refused 10 ∷ refused 10 ∷ accepted (Slot 0) ∷ accepted (Slot 0) ∷ [])
-    × (map (atBallot 5 1) (0 ∷ 1 ∷ 2 ∷ 4 ∷ 5 ∷ 254 ∷ []) ≡ refused 10 ∷ refused 10 ∷ accepted (Slot 0) ∷ refused 10 ∷ refused 10 ∷ accepted (Slot 0) ∷ [])
-    × (map (atBallot 5 3) (0 ∷ 1 ∷ 3 ∷ 4 ∷ 255 ∷ []) ≡ refused 10 ∷ refused 10 ∷ refused 10 ∷ accepted (Slot 0) ∷ refused 10 ∷ [])
-    × (map (atBallot 6 2) (0 ∷ 2 ∷ 3 ∷ 255 ∷ []) ≡ refused 10 ∷ refused 10 ∷ refused 12 ∷ refused 12 ∷ [])
+    × (map (atBallot 2 5 0) (1 ∷ 2 ∷ 3 ∷ 255 ∷ []) ≡ accepted (Slot 0) ∷ refused 10 ∷ accepted (Slot 0) ∷ accepted (Slot 0) ∷ [])
+    × (map (atBallot 3 5 2) (2 ∷ 3 ∷ 6 ∷ 254 ∷ 255 ∷ []) ≡ refused 10 ∷ accepted (Slot 0) ∷ accepted (Slot 0) ∷ refused 10 ∷ accepted (Slot 0) ∷ [])
+    × (map (atBallot 4 5 0) (0 ∷ 1 ∷ 2 ∷ 4 ∷ 5 ∷ 253 ∷ []) ≡ refused 10 ∷ accepted (Slot 0) ∷ refused 10 ∷ refused 10 ∷ accepted (Slot 0) ∷ accepted (Slot 0) ∷ [])
+    × (map (atBallot 4 5 1) (0 ∷ 1 ∷ 2 ∷ 4 ∷ 5 ∷ 254 ∷ []) ≡ refused 10 ∷ refused 10 ∷ accepted (Slot 0) ∷ refused 10 ∷ refused 10 ∷ accepted (Slot 0) ∷ [])
+    × (map (atBallot 4 5 3) (0 ∷ 1 ∷ 3 ∷ 4 ∷ 255 ∷ []) ≡ refused 10 ∷ refused 10 ∷ refused 10 ∷ accepted (Slot 0) ∷ refused 10 ∷ [])
+    × (map (atBallot 4 6 2) (0 ∷ 2 ∷ 3 ∷ 255 ∷ []) ≡ refused 10 ∷ refused 10 ∷ refused 12 ∷ refused 12 ∷ [])
     × (on (0 ∷ []) (0 ∷ 0 ∷ 0 ∷ []) (0x30 ∷ 1 ∷ 1 ∷ 2 ∷ 0 ∷ 0 ∷ 0 ∷ 0 ∷ []) unused (2 ∷ 0 ∷ 0 ∷ 0 ∷ []) ≡ refused 11)
     × (on (3 ∷ []) (0 ∷ 0 ∷ 0 ∷ []) (0x30 ∷ 1 ∷ 1 ∷ 2 ∷ 0 ∷ 0 ∷ 0 ∷ 0 ∷ []) unused (2 ∷ 0 ∷ 0 ∷ 0 ∷ []) ≡ refused 11)
     × (on (2 ∷ []) (0 ∷ 0 ∷ 0 ∷ []) (0x30 ∷ 2 ∷ 1 ∷ 2 ∷ 0 ∷ 0 ∷ 0 ∷ 0 ∷ []) unused (2 ∷ 0 ∷ 0 ∷ 0 ∷ []) ≡ refused 11)
@@ -224,4 +227,4 @@ unfolding readMessage andThen refuseIf isPlan isCount isValue isVote isInRange b
     isQuorum any is1b is2a is2b higher reportOf highestReport proposal chosen isChosen2b decided forAll forSome owns leaderJudged
     receiptStore receipt phase1a phase2aMessage keepOwn sendBoth phase2a sendOnly decideSend leaderKind leaderVerdictBy leaderStepBy
     inboxSize inboxOf withInbox areLengths areInboxes recordJudged roleStep recordStep
-refusals = (refl, refl, refl, refl, refl, refl, refl, refl, refl, refl, refl, refl, refl, refl, refl, refl, refl, refl, refl, refl, refl, refl, refl, refl, refl, refl, refl)
+refusals = (refl, refl, refl, refl, refl, refl, refl, refl, refl, refl, refl, refl, refl, refl, refl, refl, refl, refl, refl, refl, refl, refl, refl, refl, refl, refl, refl, refl, refl)

@@ -1,6 +1,6 @@
 -- Phase2a, kind 6 (document 01, "The nine events" and "Refusals by place"), and ownership of ballots. Its conditions are read from the messages in
 -- the leader's own inbox (the crate inbox).
---     owns                          which ballots a leader owns
+--     owner, owns                   which ballots a leader owns
 --     phase2aMessage, keepOwn, sendBoth, phase2a     kind 6: the message that it sends, then the sending
 -- The laws of ownership are in Phase2a/Laws.antt, and the own 2a's place in Phase2a/Own.antt. Assumes nothing.
 pub mod Laws
@@ -22,8 +22,11 @@ use Rattle.quorum.specs.Quorum.{isQuorum}
 use Rattle.inbox.specs.Inbox.{any, is1b, is2a, highestReport, proposal}
 
 -- leader l owns ballot b when b > 0 and (b - 1) mod L = l (document 02, Paper 4)
+abbrev pub owner : Plan → ℕ → ℕ
+owner p b = (b - 1) % p .leaders
+
 unfoldable pub owns : Plan → ℕ → ℕ → Bool
-owns p who b = leb 1 b && eqb ((b - 1) % p .leaders) who
+owns p who b = leb 1 b && eqb (owner p b) who
 
 -- kind 6: the inbox has no 2a for (i, b), and the acceptors with a 1b there for i with mbal b are a majority; then the 2a with the value
 -- of the highest report

@@ -156,11 +156,8 @@ impl Fields {
         let Fields { map, ins, acc, mbal, bal, val } = self;
         match ffi::write(plan, [map, ins, acc, mbal, bal, val]) {
             [0, number, ..] => Err(refused(number.into())),
-            // The slot begins with this map, whose ones and two are the length.
-            slot => match NonZeroU8::new(2 + map.count_ones() as u8) {
-                Some(len) => Ok(Written { slot, len }),
-                None => outside(),
-            },
+            // The slot begins with this map; the length is 2 and the count of its ones.
+            slot => Ok(Written { slot, len: NonZeroU8::MIN.saturating_add(1 + map.count_ones() as u8) }),
         }
     }
 }

@@ -78,13 +78,13 @@ impl Plan {
         matches!(self.owner(ballot), Some(owner) if owner == leader)
     }
 
-    /// The ballot that a leader begins with, its number and one; `None` for a number that is no leader's.
+    /// The ballot that a leader begins with, its number plus one; `None` for a number that is no leader's.
     pub const fn first_ballot(self, leader: u8) -> Option<u8> {
         self.next_ballot(leader, 0)
     }
 
-    /// The lowest ballot above `ballot` that a leader owns: what it goes on with when it has heard of `ballot`. `None`
-    /// where 255 leaves none, and for a number that is no leader's.
+    /// The lowest ballot above `ballot` that a leader owns, with which it goes on when it has heard of `ballot`. `None`
+    /// where there is none up to 255, and for a number that is no leader's.
     ///
     /// ```
     /// # use paxos_commit::Plan;
@@ -92,7 +92,7 @@ impl Plan {
     /// assert_eq!((plan.first_ballot(0), plan.first_ballot(1), plan.first_ballot(2)), (Some(1), Some(2), None));
     /// assert_eq!((plan.next_ballot(0, 4), plan.next_ballot(0, 5)), (Some(5), Some(7)));
     /// assert_eq!((plan.next_ballot(0, 254), plan.next_ballot(1, 254)), (Some(255), None));
-    /// assert!(plan.owns(0, 5) && !plan.owns(1, 5) && !plan.owns(0, 0));
+    /// assert!(plan.owns(0, 5) && !plan.owns(1, 5) && plan.owner(0).is_none());
     /// ```
     pub const fn next_ballot(self, leader: u8, ballot: u8) -> Option<u8> {
         if leader >= self.leaders {

@@ -1,5 +1,5 @@
 //! Document 01's examples, its rehearsal and its limits through this crate, in an order with a number (document 02, Paper
-//! 1), what is refused of another order, and lists (Paper 2).
+//! 1), what is refused of another order, lists (Paper 2), and the owners of ballots (Paper 4).
 
 use paxos_commit::*;
 
@@ -326,12 +326,14 @@ fn fields_of_the_reader_are_the_writers() {
     }
 }
 
-/// A known map has its ones and two bytes more; no other byte has a length.
+/// A known map has its ones and two bytes more, and so has what is written with it; no other byte has a length.
 #[test]
 fn lengths() {
     for map in 0..=255u8 {
         let known = [0x29, 0x27, 0x3F, 0x39, 0x3B, 0x30].contains(&map);
         assert_eq!(Message::length(map), if known { 2 + map.count_ones() as usize } else { 0 }, "{map:02X}");
+        let written = Fields { map, ins: 0, acc: 0, mbal: 1, bal: 1, val: 1 }.write(ONE);
+        assert_eq!(written.map_or(0, |written| written.len()), Message::length(map), "{map:02X}");
     }
 }
 

@@ -38,6 +38,7 @@ use Rattle.paxos_commit.specs.PaxosCommit as Source
 use Rattle.paxos_commit.specs.PaxosCommit.{AState, State}
 use Rattle.leader.specs.Leader.{owns, leaderJudged, receipt, phase1a, phase2aMessage, sendBoth, phase2a, decideSend}
 use Rattle.leader.specs.Leader.{leaderKind, leaderVerdictBy, leaderStepBy}
+use Rattle.phase2a.specs.Phase2a.{owner}
 use Rattle.phase2a.specs.Phase2a.Laws as Owners
 use Rattle.leader.specs.Leader.Sound.{judged}
 use Rattle.matching.specs.Reading.{messageOf, setOf}
@@ -209,7 +210,7 @@ module _ (p : Plan) where
       → (l : ℕ) × (l < p .leaders) × (owns p l b ≡ true) × ((k : ℕ) → owns p k b ≡ true → k ≡ l)
   owner-one plan b above =
       let o = Owners.owns-owner p b plan above in
-      (Owners.owner p b, o .0, o .1, λ k h. Owners.one-owner p b k (Owners.owner p b) h (o .1))
+      (owner p b, o .0, o .1, λ k h. Owners.one-owner p b k (owner p b) h (o .1))
 
   pub owner-none : (l : ℕ) → owns p l 0 ≡ true → ⊥
   owner-none l h = let above = Owners.owns-above p 0 l h in omega arith

@@ -1,9 +1,9 @@
 -- Ownership of ballots: all that anything above may use of it.
 --     owns-rule             the rule, in words
---     owner, owns-owner     a ballot above 0 is owned by a leader of the plan
+--     owns-owner            a ballot above 0 is owned by a leader of the plan
 --     one-owner             and by no other
 --     owns-above            ballot 0 is nobody's
---     owns-turns            a leader's ballots: its number and one, and every L-th after that
+--     owns-turns            a leader's ballots: its number plus one, and from there every L-th
 -- Assumes nothing.
 use Prim.Native.Nat.{ℕ, _+_, _-_, _*_, _/_, _%_, _<_}
 use mathlib.Core.Bool.{true}
@@ -17,21 +17,17 @@ use Rattle.message.specs.declared.Plan.{Plan}
 use Rattle.message.specs.Outcome.Laws.{both}
 use Rattle.message.specs.Plan.{isPlan}
 use Rattle.message.specs.Plan.Laws.{plan-bounds}
-use Rattle.phase2a.specs.Phase2a.{owns}
-
-pub owner : Plan → ℕ → ℕ
-owner p b = (b - 1) % p .leaders
+use Rattle.phase2a.specs.Phase2a.{owner, owns}
 
 module _ (p : Plan) (b : ℕ) where
   pub owns-rule : (l : ℕ) → (owns p l b ≡ true) ↔ ((0 < b) × ((b - 1) % p .leaders ≡ l))
   unfolding owns
   owns-rule l = (
-    λ h. let t = both (leb 1 b) (eqb ((b - 1) % p .leaders) l) h in (leb-true 1 b (t .0), eqb-true _ _ (t .1)),
-    λ (above, is). rw (le-leb 1 b above, eq-eqb ((b - 1) % p .leaders) l is),
+    λ h. let t = both (leb 1 b) (eqb (owner p b) l) h in (leb-true 1 b (t .0), eqb-true _ _ (t .1)),
+    λ (above, is). rw (le-leb 1 b above, eq-eqb (owner p b) l is),
   )
 
   pub owns-owner : isPlan p ≡ true → 0 < b → (owner p b < p .leaders) × (owns p (owner p b) b ≡ true)
-  unfolding owner
   owns-owner plan above = (mod-lt (b - 1) (plan-bounds p plan .leaders-least), owns-rule (owner p b) .1 (above, refl))
 
   pub one-owner : (l k : ℕ) → owns p l b ≡ true → owns p k b ≡ true → l ≡ k

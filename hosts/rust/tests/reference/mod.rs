@@ -6,8 +6,8 @@
 //! has not as calls, from their description (see `host`). The order number was
 //! added from Paper 1's text, by someone who had seen the proved byte form, and
 //! the list from Paper 2's, without sight of the proved list call; Phase2a got
-//! its blocks of slots then. Lengths are counted and ballots owned as Papers 3's
-//! and 4's text says. The tests use its public functions only.
+//! its blocks of slots then. Lengths are counted and ballots owned as the text
+//! of Papers 3 and 4 says. The tests use its public functions only.
 //!
 //! A record is four byte tables, lent to every call:
 //!
