@@ -2,12 +2,13 @@
 //! linked time / Rust time.
 //!
 //!     cargo bench --bench calls                 all of it
-//!     cargo bench --bench calls -- lists        one part: events, roles, others, lists or rehearsals
+//!     cargo bench --bench calls -- lists        one part: events, roles, turns, others, lists or rehearsals
 //!
 //! Largest plan (n = 16, A = 7, L = 4) and largest tables (1,024 slots in N and in each inbox). Both engines get the
 //! same tables and events and must answer the same. Each call is timed by itself, and what it changed is restored
 //! before the next, outside the timing; sixteen calls are a batch, and the smallest of many batches counts, less the
-//! smallest batch of empty timings. The engines take turns batch by batch. A list of 256 events is timed as a whole, and
+//! smallest batch of empty timings. The engines take turns batch by batch. In the part `turns` a batch is a call on each of
+//! 96 different tables, so that no branch is foreseen from the call before. A list of 256 events is timed as a whole, and
 //! so are its events as single calls one after the other; the smallest of many rounds counts, for an event.
 
 #[path = "../tests/reference/mod.rs"]
@@ -23,6 +24,7 @@ const REFERENCE_PLAN: reference::Plan = reference::Plan { rms: 16, acceptors: 7,
 const SLOTS: usize = 1024;
 const BATCHES: usize = 1000;
 const ROUNDS: usize = 100;
+const TURNS: u64 = 96;
 const CALLS: usize = 16;
 
 type Message = [u8; SLOT];
@@ -225,12 +227,13 @@ fn fill(random: &mut Random, row: &mut [u8], first: &[Message], used: usize, las
     }
 }
 
-fn tables(kind: &Kind, level: Level) -> Tables {
+/// Tables for a kind; other ones for each turn.
+fn tables(kind: &Kind, level: Level, turn: u64) -> Tables {
     let mut tables = Tables::fresh();
     if level == Level::Fresh {
         return tables;
     }
-    let mut random = Random(0x9E37_79B9_7F4A_7C15);
+    let mut random = Random(0x9E37_79B9_7F4A_7C15_u64.wrapping_mul(2 * turn + 1));
     let used = match level {
         Level::Half => SLOTS / 2,
         Level::Full | Level::Votes => SLOTS,
@@ -334,10 +337,10 @@ fn ending_by_hand(plan: reference::Plan, states: &[u8]) -> Result<reference::End
     reference::ending(plan, states)
 }
 
-/// The time of a batch of calls, each on restored tables.
-fn batch<T>(tables: &mut Tables, old: &Tables, mut call: impl FnMut(&mut Tables) -> T) -> Duration {
+/// The time of a batch of calls, one on each of these tables, which are restored.
+fn batch<T>(tables: &mut Tables, olds: &[&Tables], mut call: impl FnMut(&mut Tables) -> T) -> Duration {
     let mut total = Duration::ZERO;
-    for _ in 0..CALLS {
+    for old in olds {
         tables.restore(old);
         let tables = black_box(&mut *tables);
         let start = Instant::now();
@@ -359,28 +362,25 @@ impl Times {
 }
 
 /// Nanoseconds for a call, less what the timing itself takes.
-fn nanoseconds(batch: Duration, empty: Duration) -> f64 {
-    (batch.saturating_sub(empty).as_nanos() as f64 / CALLS as f64).max(0.1)
+fn nanoseconds(batch: Duration, empty: Duration, calls: usize) -> f64 {
+    (batch.saturating_sub(empty).as_nanos() as f64 / calls as f64).max(0.1)
 }
 
 /// Calls that change the tables.
 fn time_on<A, B>(
-    old: &Tables,
+    olds: &[&Tables],
     mut linked: impl FnMut(&mut Tables) -> A,
     mut by_hand: impl FnMut(&mut Tables) -> B,
 ) -> Times {
-    let mut tables = old.clone();
+    let mut tables = olds[0].clone();
     let [mut empty, mut first, mut second] = [Duration::MAX; 3];
-    for _ in 0..BATCHES {
-        empty = empty.min(batch(&mut tables, old, |_| ()));
-        first = first.min(batch(&mut tables, old, &mut linked));
-        second = second.min(batch(&mut tables, old, &mut by_hand));
+    for _ in 0..BATCHES * CALLS / olds.len() {
+        empty = empty.min(batch(&mut tables, olds, |_| ()));
+        first = first.min(batch(&mut tables, olds, &mut linked));
+        second = second.min(batch(&mut tables, olds, &mut by_hand));
     }
-    Times { linked: nanoseconds(first, empty), by_hand: nanoseconds(second, empty) }
-}
-
-fn time(own: bool, old: &Tables, event: &[u8; 4]) -> Times {
-    time_on(old, |tables| linked(own, tables, event), |tables| by_hand(own, tables, event))
+    let time = |batch| nanoseconds(batch, empty, olds.len());
+    Times { linked: time(first), by_hand: time(second) }
 }
 
 /// Both engines once: the same answer, the same tables.
@@ -812,17 +812,24 @@ impl Report {
         self.ratios.push((part, name.to_string(), times.ratio()));
     }
 
-    /// The two calls on all kinds and levels.
-    fn steps(&mut self, own: bool, title: &str) {
+    /// The two calls on all kinds and levels, always on the same tables or on different ones by turns.
+    fn steps(&mut self, own: bool, turns: bool, title: &str) {
+        // Without a message beside those that are needed the tables would be the same.
+        let levels = if turns { &LEVELS[2..] } else { &LEVELS[..] };
         println!("### {title}\n");
-        println!("| kind |{}", LEVELS.map(|(_, name)| format!(" {name} |")).concat());
-        println!("|---|{}", "---|".repeat(LEVELS.len()));
+        println!("| kind |{}", levels.iter().map(|(_, name)| format!(" {name} |")).collect::<String>());
+        println!("|---|{}", "---|".repeat(levels.len()));
         for kind in kinds() {
             print!("| {} |", kind.name);
-            for (level, name) in LEVELS {
-                let old = tables(&kind, level);
-                let said = answer(own, &old, &kind.event);
-                let times = time(own, &old, &kind.event);
+            for &(level, name) in levels {
+                let olds: Vec<_> = (0..if turns { TURNS } else { 1 }).map(|turn| tables(&kind, level, turn)).collect();
+                let said = olds.iter().map(|old| answer(own, old, &kind.event)).next_back().unwrap_or_default();
+                let calls = if turns { olds.iter().collect() } else { vec![&olds[0]; CALLS] };
+                let times = time_on(
+                    &calls,
+                    |tables| linked(own, tables, &kind.event),
+                    |tables| by_hand(own, tables, &kind.event),
+                );
                 self.keep(format!("{title}, {name}"), kind.name, &times);
                 print!(" **{:.2}** ({:.0} / {:.0}) {said} |", times.ratio(), times.linked, times.by_hand);
             }
@@ -873,7 +880,7 @@ impl Report {
             let (mut first, mut second) = (old.clone(), old.clone());
             assert_eq!(linked(&mut first).map_err(Refusal::number), by_hand(&mut second), "{name}");
             assert!(first == second, "{name}: tables differ");
-            self.line(name, 1.0, 0, time_on(&old, linked, by_hand));
+            self.line(name, 1.0, 0, time_on(&[&old; CALLS], linked, by_hand));
         }
     }
 
@@ -1039,10 +1046,14 @@ fn main() {
     let wanted = |name: &str| part.as_deref().is_none_or(|part| part == name);
     let mut report = Report::default();
     if wanted("events") {
-        report.steps(false, "Event call");
+        report.steps(false, false, "Event call");
     }
     if wanted("roles") {
-        report.steps(true, "The role's own call");
+        report.steps(true, false, "The role's own call");
+    }
+    if wanted("turns") {
+        report.steps(false, true, "Event call, 96 tables by turns");
+        report.steps(true, true, "The role's own call, 96 tables by turns");
     }
     if wanted("others") {
         report.others();
