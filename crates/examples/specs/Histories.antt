@@ -1,13 +1,15 @@
 -- Three short lists of calls from a fresh record: one weight, one acceptor, one leader, six slots in N and in the inbox. Between them every
 -- kind is accepted, and an order ends committed or aborted, so what is proved of accepted calls and of lists of calls is not proved of nothing.
 --     order, fresh          the plan and the fresh record
---     committing, aborting, declining     the lists of calls
---     orders-end            what they answer, and W afterwards
---     committing-list, lists-end     the first as one list, and lists that are refused whole
---     mixing, mixed-ends    lists among event calls
---     order-examples        an old map, a bad field of another order, other orders by either byte, and a Commit of this order and of another
---     on, unused, atBallot, refusals     each number of the event call, on tables given byte by byte
---     spread, places        three weights, three acceptors and two leaders: where each call puts its bytes in the four tables
+--     committing, aborting, declining; committing-list, mixing     the lists of calls; the first as one list; lists among event calls
+--     spread                three weights, three acceptors and two leaders
+--     on, unused, atBallot  the answer of one event call on tables given byte by byte
+--     Computed, computed    what all of these come to, in numbers and bytes: each field is a theorem
+--         orders-end            what the lists of calls answer, and W afterwards
+--         lists-end, mixed-ends     the same of lists, and of those that are refused whole
+--         places                where each call puts its bytes in the four tables
+--         order-examples        an old map, a bad field of another order, other orders by either byte, and a Commit of this order and of another
+--         refusals              each number of the event call
 -- Assumes nothing.
 use Prim.Native.Nat.{ℕ}
 use mathlib.Core.List.{List, [], _∷_, _++_, map}
@@ -59,28 +61,7 @@ aborting = call 5 0 1 ∷ call 3 0 0 ∷ call 4 0 1 ∷ call 6 0 1 ∷ call 3 0 
 abbrev pub declining : List Call
 declining = call 1 0 0 ∷ []
 
-pub orders-end :
-    (answers order fresh committing
-    ≡ accepted (Slot 0) ∷ accepted (Slot 1) ∷ accepted Quiet ∷ accepted (Slot 2) ∷ accepted Quiet ∷ refused 12 ∷ [])
-    × (tablesAfter order fresh committing .states ≡ 2 ∷ [])
-    × (answers order fresh aborting
-    ≡ accepted (Slot 0) ∷ accepted (Slot 1) ∷ accepted Quiet ∷ accepted (Slot 2) ∷ accepted (Slot 3) ∷ accepted Quiet ∷ accepted (Slot 4)
-    ∷ accepted Quiet ∷ [])
-    × (tablesAfter order fresh aborting .states ≡ 3 ∷ [])
-    × (answers order fresh declining ≡ accepted (Slot 0) ∷ [])
-    × (tablesAfter order fresh declining .states ≡ 3 ∷ [])
-unfolding readMessage andThen refuseIf isPlan isCount isValue isVote isInRange bytesOf bytesOf1b messageLength slotOf mapLength isKnown ones
-    fieldsMessage decode hasOrder all isTableLength slotsUpTo slots isZero readSlot readTable allUnused isOrdered isTable usedMessages
-    messages sameBytes storeAt sameMessage placeFrom placeIn messageAt sending slotNumber whoLimit areZero areArguments isEvent
-    areStates rmJudged rmChoose rmReceiveDecision rmReceive rmKind rmVerdict rmStep voteAt
-    isVoteState areVotes acceptorJudged voteOf phase1b phase2b acceptorReceive acceptorVerdict acceptorStep countAcceptors isMajority
-    isQuorum any is1b is2a is2b higher reportOf highestReport proposal chosen isChosen2b decided forAll forSome owns leaderJudged
-    receiptStore receipt phase1a phase2aMessage keepOwn sendBoth phase2a sendOnly decideSend leaderKind leaderVerdictBy leaderStepBy
-    inboxSize inboxOf withInbox areLengths areInboxes recordJudged roleStep recordStep
-orders-end = (refl, refl, refl, refl, refl, refl)
-
--- the same calls handed in as one list (document 02, Paper 2): their numbers, and their tables. An event that is none and one that is refused end
--- nothing; a list that is cut, and one with an answer too many or too few, is refused whole with 19, and a bad plan or table before that
+-- the same calls handed in as one list (document 02, Paper 2), with an event that is none
 abbrev pub committing-list : List ℕ
 committing-list =
     0 ∷ 0 ∷ 0 ∷ 0
@@ -92,28 +73,6 @@ committing-list =
     ∷ 1 ∷ 0 ∷ 0 ∷ 0
     ∷ []
 
-pub lists-end :
-    (recordRun order fresh committing-list (replicate 7 99) .answer ≡ accepted tt)
-    × (recordRun order fresh committing-list (replicate 7 99) .answers ≡ 0 ∷ 0 ∷ 7 ∷ 0 ∷ 0 ∷ 0 ∷ 12 ∷ [])
-    × (recordRun order fresh committing-list (replicate 7 99) .tables .states ≡ 2 ∷ [])
-    × (recordRun order fresh [] [] ≡ record { answer = accepted tt; tables = fresh; answers = [] })
-    × (recordRun order fresh (0 ∷ 0 ∷ 0 ∷ []) (99 ∷ []) ≡ record { answer = refused 19; tables = fresh; answers = 99 ∷ [] })
-    × (recordRun order fresh (0 ∷ 0 ∷ 0 ∷ 0 ∷ 7 ∷ []) (99 ∷ []) ≡ record { answer = refused 19; tables = fresh; answers = 99 ∷ [] })
-    × (recordRun order fresh (0 ∷ 0 ∷ 0 ∷ 0 ∷ []) [] ≡ record { answer = refused 19; tables = fresh; answers = [] })
-    × (recordRun order fresh (0 ∷ 0 ∷ 0 ∷ 0 ∷ []) (98 ∷ 99 ∷ []) ≡ record { answer = refused 19; tables = fresh; answers = 98 ∷ 99 ∷ [] })
-    × (recordRun (record { rms = 0; acceptors = 1; leaders = 1; order = 0x0102 }) fresh (0 ∷ []) [] .answer ≡ refused 1)
-    × (recordRun order (tablesOf (4 ∷ []) (replicate 3 0) (replicate 48 0) (replicate 48 0)) (0 ∷ []) [] .answer ≡ refused 3)
-unfolding readMessage andThen refuseIf isPlan isCount isValue isVote isInRange bytesOf bytesOf1b messageLength slotOf mapLength isKnown ones
-    fieldsMessage decode hasOrder all isTableLength slotsUpTo slots isZero readSlot readTable allUnused isOrdered isTable usedMessages
-    messages sameBytes storeAt sameMessage placeFrom placeIn messageAt sending slotNumber whoLimit areZero areArguments isEvent
-    areStates rmJudged rmChoose rmReceiveDecision rmReceive rmKind rmVerdict rmStep voteAt
-    isVoteState areVotes acceptorJudged voteOf phase1b phase2b acceptorReceive acceptorVerdict acceptorStep countAcceptors isMajority
-    isQuorum any is1b is2a is2b higher reportOf highestReport proposal chosen isChosen2b decided forAll forSome owns leaderJudged
-    receiptStore receipt phase1a phase2aMessage keepOwn sendBoth phase2a sendOnly decideSend leaderKind leaderVerdictBy leaderStepBy
-    inboxSize inboxOf withInbox areLengths areInboxes recordJudged roleStep recordStep runJudged
-    finishedRun recordRun
-lists-end = (refl, refl, refl, refl, refl, refl, refl, refl, refl, refl)
-
 -- lists among event calls: a list of three events, one of them refused, a cut list, which counts as none, and the rest
 abbrev pub mixing : List Call
 mixing =
@@ -124,54 +83,9 @@ mixing =
     ∷ run (2 ∷ 0 ∷ 0 ∷ 2 ∷ []) (99 ∷ [])
     ∷ []
 
-pub mixed-ends :
-    (answers order fresh mixing
-    ≡ accepted (Slot 0) ∷ accepted (Slot 1) ∷ refused 7 ∷ accepted Quiet ∷ accepted (Slot 2) ∷ accepted Quiet ∷ [])
-    × (tablesAfter order fresh mixing .states ≡ 2 ∷ [])
-unfolding readMessage andThen refuseIf isPlan isCount isValue isVote isInRange bytesOf bytesOf1b messageLength slotOf mapLength isKnown ones
-    fieldsMessage decode hasOrder all isTableLength slotsUpTo slots isZero readSlot readTable allUnused isOrdered isTable usedMessages
-    messages sameBytes storeAt sameMessage placeFrom placeIn messageAt sending slotNumber whoLimit areZero areArguments isEvent
-    areStates rmJudged rmChoose rmReceiveDecision rmReceive rmKind rmVerdict rmStep voteAt
-    isVoteState areVotes acceptorJudged voteOf phase1b phase2b acceptorReceive acceptorVerdict acceptorStep countAcceptors isMajority
-    isQuorum any is1b is2a is2b higher reportOf highestReport proposal chosen isChosen2b decided forAll forSome owns leaderJudged
-    receiptStore receipt phase1a phase2aMessage keepOwn sendBoth phase2a sendOnly decideSend leaderKind leaderVerdictBy leaderStepBy
-    inboxSize inboxOf withInbox areLengths areInboxes recordJudged roleStep recordStep runJudged
-    finishedRun recordRun
-mixed-ends = (refl, refl)
-
 -- leader 1 opens ballot 2 for weight 2, acceptor 1 promises, leader 1 hears of it, weight 2 prepares
 abbrev pub spread : List Call
 spread = event (5 ∷ 1 ∷ 2 ∷ 2 ∷ []) ∷ event (3 ∷ 1 ∷ 0 ∷ 0 ∷ []) ∷ event (4 ∷ 1 ∷ 0 ∷ 1 ∷ []) ∷ event (0 ∷ 2 ∷ 0 ∷ 0 ∷ []) ∷ []
-
--- mbal of weight 2 and acceptor 1 is byte 3 × (2 × 3 + 1) of Q, and leader 1's inbox begins in the middle of I
-pub places :
-    tablesAfter (record { rms = 3; acceptors = 3; leaders = 2; order = 0x0102 })
-    (tablesOf (replicate 3 0) (replicate 27 0) (replicate 32 0) (replicate 32 0)) spread
-    ≡ tablesOf (0 ∷ 0 ∷ 1 ∷ []) (replicate 21 0 ++ (2 ∷ replicate 5 0))
-    ((0x29 ∷ 2 ∷ 2 ∷ 1 ∷ 2 ∷ 0 ∷ 0 ∷ 0 ∷ []) ++ ((0x27 ∷ 2 ∷ 1 ∷ 2 ∷ 1 ∷ 2 ∷ 0 ∷ 0 ∷ []) ++ ((0x39 ∷ 2 ∷ 0 ∷ 1 ∷ 1 ∷ 2 ∷ 0 ∷ 0 ∷ []) ++ replicate 8 0)))
-    (replicate 16 0 ++ ((0x27 ∷ 2 ∷ 1 ∷ 2 ∷ 1 ∷ 2 ∷ 0 ∷ 0 ∷ []) ++ replicate 8 0))
-unfolding readMessage andThen refuseIf isPlan isCount isValue isVote isInRange bytesOf bytesOf1b messageLength slotOf mapLength isKnown ones
-    fieldsMessage decode hasOrder all isTableLength slotsUpTo slots isZero readSlot readTable allUnused isOrdered isTable usedMessages
-    messages sameBytes storeAt sameMessage placeFrom placeIn messageAt sending slotNumber whoLimit areZero areArguments isEvent
-    areStates rmJudged rmChoose rmReceiveDecision rmReceive rmKind rmVerdict rmStep voteAt
-    isVoteState areVotes acceptorJudged voteOf phase1b phase2b acceptorReceive acceptorVerdict acceptorStep countAcceptors isMajority
-    isQuorum any is1b is2a is2b higher reportOf highestReport proposal chosen isChosen2b decided forAll forSome owns leaderJudged
-    receiptStore receipt phase1a phase2aMessage keepOwn sendBoth phase2a sendOnly decideSend leaderKind leaderVerdictBy leaderStepBy
-    inboxSize inboxOf withInbox areLengths areInboxes recordJudged roleStep recordStep
-places = refl
-
--- the order number is 0102 (document 02, Paper 1)
-pub order-examples : map (readMessage order)
-    ((0x19 ∷ 0 ∷ 0 ∷ 1 ∷ [])
-    ∷ (0x39 ∷ 0 ∷ 0 ∷ 3 ∷ 1 ∷ 3 ∷ [])
-    ∷ (0x39 ∷ 0 ∷ 0 ∷ 1 ∷ 1 ∷ 3 ∷ [])
-    ∷ (0x39 ∷ 0 ∷ 0 ∷ 1 ∷ 2 ∷ 2 ∷ [])
-    ∷ (0x30 ∷ 1 ∷ 1 ∷ 2 ∷ [])
-    ∷ (0x30 ∷ 1 ∷ 2 ∷ 1 ∷ [])
-    ∷ [])
-    ≡ refused 15 ∷ refused 17 ∷ refused 18 ∷ refused 18 ∷ accepted (Decision 1) ∷ refused 18 ∷ []
-unfolding readMessage refuseIf isPlan isCount isValue isVote isInRange mapLength isKnown ones fieldsMessage decode hasOrder
-order-examples = refl
 
 -- an event call on a record of one weight, one acceptor and one leader: its answer
 abbrev pub on : List ℕ → List ℕ → List ℕ → List ℕ → List ℕ → Outcome Sent
@@ -187,44 +101,99 @@ atBallot leaders kind who b =
     recordStep (record { rms = 1; acceptors = 1; leaders = leaders; order = 0x0102 }) (tablesOf (0 ∷ []) (0 ∷ 0 ∷ 0 ∷ []) unused [])
     (kind ∷ who ∷ 0 ∷ b ∷ []) .answer
 
--- each row of "Refusals by place" for the event call, in bytes
-pub refusals :
-    (recordStep (record { rms = 0; acceptors = 1; leaders = 1; order = 0x0102 }) (tablesOf [] [] [] []) (0 ∷ 0 ∷ 0 ∷ 0 ∷ []) .answer ≡ refused 1)
-    × (on (0 ∷ 0 ∷ []) (0 ∷ 0 ∷ 0 ∷ []) unused unused (0 ∷ 0 ∷ 0 ∷ 0 ∷ []) ≡ refused 2)
-    × (on (4 ∷ []) (0 ∷ 0 ∷ 3 ∷ []) unused unused (0 ∷ 0 ∷ 0 ∷ 0 ∷ []) ≡ refused 3)
-    × (on (0 ∷ []) (0 ∷ 0 ∷ 3 ∷ []) unused unused (0 ∷ 0 ∷ 0 ∷ 0 ∷ []) ≡ refused 4)
-    × (on (0 ∷ []) (0 ∷ 1 ∷ 0 ∷ []) unused unused (0 ∷ 0 ∷ 0 ∷ 0 ∷ []) ≡ refused 4)
-    × (on (0 ∷ []) (0 ∷ 0 ∷ 0 ∷ []) (0x30 ∷ 3 ∷ 1 ∷ 2 ∷ 0 ∷ 0 ∷ 0 ∷ 0 ∷ []) unused (0 ∷ 0 ∷ 0 ∷ 0 ∷ []) ≡ refused 5)
-    × (on (0 ∷ []) (0 ∷ 0 ∷ 0 ∷ []) (unused ++ (0x30 ∷ 1 ∷ 1 ∷ 2 ∷ 0 ∷ 0 ∷ 0 ∷ 0 ∷ [])) unused (0 ∷ 0 ∷ 0 ∷ 0 ∷ []) ≡ refused 5)
-    × (on (0 ∷ []) (0 ∷ 0 ∷ 0 ∷ []) unused (0x30 ∷ 1 ∷ 1 ∷ 2 ∷ 1 ∷ 0 ∷ 0 ∷ 0 ∷ []) (0 ∷ 0 ∷ 0 ∷ 0 ∷ []) ≡ refused 6)
-    × (on (0 ∷ []) (0 ∷ 0 ∷ 0 ∷ []) (0x30 ∷ 1 ∷ 1 ∷ 3 ∷ 0 ∷ 0 ∷ 0 ∷ 0 ∷ []) unused (2 ∷ 0 ∷ 0 ∷ 0 ∷ []) ≡ refused 5)
-    × (on (0 ∷ []) (0 ∷ 0 ∷ 0 ∷ []) unused (0x30 ∷ 1 ∷ 3 ∷ 2 ∷ 0 ∷ 0 ∷ 0 ∷ 0 ∷ []) (0 ∷ 0 ∷ 0 ∷ 0 ∷ []) ≡ refused 6)
-    × (on (0 ∷ []) (0 ∷ 0 ∷ 0 ∷ []) unused unused (0 ∷ 0 ∷ 0 ∷ 0 ∷ 0 ∷ []) ≡ refused 7)
-    × (on (0 ∷ []) (0 ∷ 0 ∷ 0 ∷ []) unused unused (9 ∷ 0 ∷ 0 ∷ 0 ∷ []) ≡ refused 7)
-    × (on (0 ∷ []) (0 ∷ 0 ∷ 0 ∷ []) unused unused (2 ∷ 0 ∷ 0 ∷ 0 ∷ []) ≡ refused 8)
-    × (on (0 ∷ []) (0 ∷ 0 ∷ 0 ∷ []) (0x29 ∷ 0 ∷ 1 ∷ 1 ∷ 2 ∷ 0 ∷ 0 ∷ 0 ∷ []) unused (2 ∷ 0 ∷ 0 ∷ 0 ∷ []) ≡ refused 9)
-    × (on (0 ∷ []) (0 ∷ 0 ∷ 0 ∷ []) (0x30 ∷ 1 ∷ 1 ∷ 2 ∷ 0 ∷ 0 ∷ 0 ∷ 0 ∷ []) unused (3 ∷ 0 ∷ 0 ∷ 0 ∷ []) ≡ refused 9)
-    × (on (0 ∷ []) (0 ∷ 0 ∷ 0 ∷ []) (0x39 ∷ 0 ∷ 0 ∷ 1 ∷ 1 ∷ 2 ∷ 0 ∷ 0 ∷ []) unused (4 ∷ 0 ∷ 0 ∷ 0 ∷ []) ≡ refused 9)
-    × (on (0 ∷ []) (0 ∷ 0 ∷ 0 ∷ []) unused unused (5 ∷ 0 ∷ 0 ∷ 0 ∷ []) ≡ refused 10)
-    × (map (atBallot 2 5 0) (1 ∷ 2 ∷ 3 ∷ 255 ∷ []) ≡ accepted (Slot 0) ∷ refused 10 ∷ accepted (Slot 0) ∷ accepted (Slot 0) ∷ [])
-    × (map (atBallot 3 5 2) (2 ∷ 3 ∷ 6 ∷ 254 ∷ 255 ∷ []) ≡ refused 10 ∷ accepted (Slot 0) ∷ accepted (Slot 0) ∷ refused 10 ∷ accepted (Slot 0) ∷ [])
-    × (map (atBallot 4 5 0) (0 ∷ 1 ∷ 2 ∷ 4 ∷ 5 ∷ 253 ∷ []) ≡ refused 10 ∷ accepted (Slot 0) ∷ refused 10 ∷ refused 10 ∷ accepted (Slot 0) ∷ accepted (Slot 0) ∷ [])
-    × (map (atBallot 4 5 1) (0 ∷ 1 ∷ 2 ∷ 4 ∷ 5 ∷ 254 ∷ []) ≡ refused 10 ∷ refused 10 ∷ accepted (Slot 0) ∷ refused 10 ∷ refused 10 ∷ accepted (Slot 0) ∷ [])
-    × (map (atBallot 4 5 3) (0 ∷ 1 ∷ 3 ∷ 4 ∷ 255 ∷ []) ≡ refused 10 ∷ refused 10 ∷ refused 10 ∷ accepted (Slot 0) ∷ refused 10 ∷ [])
-    × (map (atBallot 4 6 2) (0 ∷ 2 ∷ 3 ∷ 255 ∷ []) ≡ refused 10 ∷ refused 10 ∷ refused 12 ∷ refused 12 ∷ [])
-    × (on (0 ∷ []) (0 ∷ 0 ∷ 0 ∷ []) (0x30 ∷ 1 ∷ 1 ∷ 2 ∷ 0 ∷ 0 ∷ 0 ∷ 0 ∷ []) unused (2 ∷ 0 ∷ 0 ∷ 0 ∷ []) ≡ refused 11)
-    × (on (3 ∷ []) (0 ∷ 0 ∷ 0 ∷ []) (0x30 ∷ 1 ∷ 1 ∷ 2 ∷ 0 ∷ 0 ∷ 0 ∷ 0 ∷ []) unused (2 ∷ 0 ∷ 0 ∷ 0 ∷ []) ≡ refused 11)
-    × (on (2 ∷ []) (0 ∷ 0 ∷ 0 ∷ []) (0x30 ∷ 2 ∷ 1 ∷ 2 ∷ 0 ∷ 0 ∷ 0 ∷ 0 ∷ []) unused (2 ∷ 0 ∷ 0 ∷ 0 ∷ []) ≡ refused 11)
-    × (on (1 ∷ []) (0 ∷ 0 ∷ 0 ∷ []) unused unused (0 ∷ 0 ∷ 0 ∷ 0 ∷ []) ≡ refused 12)
-    × (on (0 ∷ []) (0 ∷ 0 ∷ 0 ∷ []) (0x30 ∷ 2 ∷ 1 ∷ 2 ∷ 0 ∷ 0 ∷ 0 ∷ 0 ∷ []) unused (0 ∷ 0 ∷ 0 ∷ 0 ∷ []) ≡ refused 13)
-    × (on (0 ∷ []) (0 ∷ 0 ∷ 0 ∷ []) (0x27 ∷ 0 ∷ 0 ∷ 1 ∷ 1 ∷ 2 ∷ 0 ∷ 0 ∷ []) (0x27 ∷ 0 ∷ 0 ∷ 2 ∷ 1 ∷ 2 ∷ 0 ∷ 0 ∷ []) (4 ∷ 0 ∷ 0 ∷ 0 ∷ [])
-    ≡ refused 14)
+pub record Computed : Type 0 where
+  pub orders-end :
+      (answers order fresh committing
+      ≡ accepted (Slot 0) ∷ accepted (Slot 1) ∷ accepted Quiet ∷ accepted (Slot 2) ∷ accepted Quiet ∷ refused 12 ∷ [])
+      × (tablesAfter order fresh committing .states ≡ 2 ∷ [])
+      × (answers order fresh aborting
+      ≡ accepted (Slot 0) ∷ accepted (Slot 1) ∷ accepted Quiet ∷ accepted (Slot 2) ∷ accepted (Slot 3) ∷ accepted Quiet ∷ accepted (Slot 4)
+      ∷ accepted Quiet ∷ [])
+      × (tablesAfter order fresh aborting .states ≡ 3 ∷ [])
+      × (answers order fresh declining ≡ accepted (Slot 0) ∷ [])
+      × (tablesAfter order fresh declining .states ≡ 3 ∷ [])
+  -- numbers and tables of a list. An event that is none and one that is refused end nothing; a list that is cut, and one with an answer too many or
+  -- too few, is refused whole with 19, and a bad plan or table before that
+  pub lists-end :
+      (recordRun order fresh committing-list (replicate 7 99) .answer ≡ accepted tt)
+      × (recordRun order fresh committing-list (replicate 7 99) .answers ≡ 0 ∷ 0 ∷ 7 ∷ 0 ∷ 0 ∷ 0 ∷ 12 ∷ [])
+      × (recordRun order fresh committing-list (replicate 7 99) .tables .states ≡ 2 ∷ [])
+      × (recordRun order fresh [] [] ≡ record { answer = accepted tt; tables = fresh; answers = [] })
+      × (recordRun order fresh (0 ∷ 0 ∷ 0 ∷ []) (99 ∷ []) ≡ record { answer = refused 19; tables = fresh; answers = 99 ∷ [] })
+      × (recordRun order fresh (0 ∷ 0 ∷ 0 ∷ 0 ∷ 7 ∷ []) (99 ∷ []) ≡ record { answer = refused 19; tables = fresh; answers = 99 ∷ [] })
+      × (recordRun order fresh (0 ∷ 0 ∷ 0 ∷ 0 ∷ []) [] ≡ record { answer = refused 19; tables = fresh; answers = [] })
+      × (recordRun order fresh (0 ∷ 0 ∷ 0 ∷ 0 ∷ []) (98 ∷ 99 ∷ []) ≡ record { answer = refused 19; tables = fresh; answers = 98 ∷ 99 ∷ [] })
+      × (recordRun (record { rms = 0; acceptors = 1; leaders = 1; order = 0x0102 }) fresh (0 ∷ []) [] .answer ≡ refused 1)
+      × (recordRun order (tablesOf (4 ∷ []) (replicate 3 0) (replicate 48 0) (replicate 48 0)) (0 ∷ []) [] .answer ≡ refused 3)
+  pub mixed-ends :
+      (answers order fresh mixing
+      ≡ accepted (Slot 0) ∷ accepted (Slot 1) ∷ refused 7 ∷ accepted Quiet ∷ accepted (Slot 2) ∷ accepted Quiet ∷ [])
+      × (tablesAfter order fresh mixing .states ≡ 2 ∷ [])
+  -- mbal of weight 2 and acceptor 1 is byte 3 × (2 × 3 + 1) of Q, and leader 1's inbox begins in the middle of I
+  pub places :
+      tablesAfter (record { rms = 3; acceptors = 3; leaders = 2; order = 0x0102 })
+      (tablesOf (replicate 3 0) (replicate 27 0) (replicate 32 0) (replicate 32 0)) spread
+      ≡ tablesOf (0 ∷ 0 ∷ 1 ∷ []) (replicate 21 0 ++ (2 ∷ replicate 5 0))
+      ((0x29 ∷ 2 ∷ 2 ∷ 1 ∷ 2 ∷ 0 ∷ 0 ∷ 0 ∷ []) ++ ((0x27 ∷ 2 ∷ 1 ∷ 2 ∷ 1 ∷ 2 ∷ 0 ∷ 0 ∷ []) ++ ((0x39 ∷ 2 ∷ 0 ∷ 1 ∷ 1 ∷ 2 ∷ 0 ∷ 0 ∷ []) ++ replicate 8 0)))
+      (replicate 16 0 ++ ((0x27 ∷ 2 ∷ 1 ∷ 2 ∷ 1 ∷ 2 ∷ 0 ∷ 0 ∷ []) ++ replicate 8 0))
+  -- the order number is 0102 (document 02, Paper 1)
+  pub order-examples : map (readMessage order)
+      ((0x19 ∷ 0 ∷ 0 ∷ 1 ∷ [])
+      ∷ (0x39 ∷ 0 ∷ 0 ∷ 3 ∷ 1 ∷ 3 ∷ [])
+      ∷ (0x39 ∷ 0 ∷ 0 ∷ 1 ∷ 1 ∷ 3 ∷ [])
+      ∷ (0x39 ∷ 0 ∷ 0 ∷ 1 ∷ 2 ∷ 2 ∷ [])
+      ∷ (0x30 ∷ 1 ∷ 1 ∷ 2 ∷ [])
+      ∷ (0x30 ∷ 1 ∷ 2 ∷ 1 ∷ [])
+      ∷ [])
+      ≡ refused 15 ∷ refused 17 ∷ refused 18 ∷ refused 18 ∷ accepted (Decision 1) ∷ refused 18 ∷ []
+  -- each row of "Refusals by place" for the event call, in bytes
+  pub refusals :
+      (recordStep (record { rms = 0; acceptors = 1; leaders = 1; order = 0x0102 }) (tablesOf [] [] [] []) (0 ∷ 0 ∷ 0 ∷ 0 ∷ []) .answer ≡ refused 1)
+      × (on (0 ∷ 0 ∷ []) (0 ∷ 0 ∷ 0 ∷ []) unused unused (0 ∷ 0 ∷ 0 ∷ 0 ∷ []) ≡ refused 2)
+      × (on (4 ∷ []) (0 ∷ 0 ∷ 3 ∷ []) unused unused (0 ∷ 0 ∷ 0 ∷ 0 ∷ []) ≡ refused 3)
+      × (on (0 ∷ []) (0 ∷ 0 ∷ 3 ∷ []) unused unused (0 ∷ 0 ∷ 0 ∷ 0 ∷ []) ≡ refused 4)
+      × (on (0 ∷ []) (0 ∷ 1 ∷ 0 ∷ []) unused unused (0 ∷ 0 ∷ 0 ∷ 0 ∷ []) ≡ refused 4)
+      × (on (0 ∷ []) (0 ∷ 0 ∷ 0 ∷ []) (0x30 ∷ 3 ∷ 1 ∷ 2 ∷ 0 ∷ 0 ∷ 0 ∷ 0 ∷ []) unused (0 ∷ 0 ∷ 0 ∷ 0 ∷ []) ≡ refused 5)
+      × (on (0 ∷ []) (0 ∷ 0 ∷ 0 ∷ []) (unused ++ (0x30 ∷ 1 ∷ 1 ∷ 2 ∷ 0 ∷ 0 ∷ 0 ∷ 0 ∷ [])) unused (0 ∷ 0 ∷ 0 ∷ 0 ∷ []) ≡ refused 5)
+      × (on (0 ∷ []) (0 ∷ 0 ∷ 0 ∷ []) unused (0x30 ∷ 1 ∷ 1 ∷ 2 ∷ 1 ∷ 0 ∷ 0 ∷ 0 ∷ []) (0 ∷ 0 ∷ 0 ∷ 0 ∷ []) ≡ refused 6)
+      × (on (0 ∷ []) (0 ∷ 0 ∷ 0 ∷ []) (0x30 ∷ 1 ∷ 1 ∷ 3 ∷ 0 ∷ 0 ∷ 0 ∷ 0 ∷ []) unused (2 ∷ 0 ∷ 0 ∷ 0 ∷ []) ≡ refused 5)
+      × (on (0 ∷ []) (0 ∷ 0 ∷ 0 ∷ []) unused (0x30 ∷ 1 ∷ 3 ∷ 2 ∷ 0 ∷ 0 ∷ 0 ∷ 0 ∷ []) (0 ∷ 0 ∷ 0 ∷ 0 ∷ []) ≡ refused 6)
+      × (on (0 ∷ []) (0 ∷ 0 ∷ 0 ∷ []) unused unused (0 ∷ 0 ∷ 0 ∷ 0 ∷ 0 ∷ []) ≡ refused 7)
+      × (on (0 ∷ []) (0 ∷ 0 ∷ 0 ∷ []) unused unused (9 ∷ 0 ∷ 0 ∷ 0 ∷ []) ≡ refused 7)
+      × (on (0 ∷ []) (0 ∷ 0 ∷ 0 ∷ []) unused unused (2 ∷ 0 ∷ 0 ∷ 0 ∷ []) ≡ refused 8)
+      × (on (0 ∷ []) (0 ∷ 0 ∷ 0 ∷ []) (0x29 ∷ 0 ∷ 1 ∷ 1 ∷ 2 ∷ 0 ∷ 0 ∷ 0 ∷ []) unused (2 ∷ 0 ∷ 0 ∷ 0 ∷ []) ≡ refused 9)
+      × (on (0 ∷ []) (0 ∷ 0 ∷ 0 ∷ []) (0x30 ∷ 1 ∷ 1 ∷ 2 ∷ 0 ∷ 0 ∷ 0 ∷ 0 ∷ []) unused (3 ∷ 0 ∷ 0 ∷ 0 ∷ []) ≡ refused 9)
+      × (on (0 ∷ []) (0 ∷ 0 ∷ 0 ∷ []) (0x39 ∷ 0 ∷ 0 ∷ 1 ∷ 1 ∷ 2 ∷ 0 ∷ 0 ∷ []) unused (4 ∷ 0 ∷ 0 ∷ 0 ∷ []) ≡ refused 9)
+      × (on (0 ∷ []) (0 ∷ 0 ∷ 0 ∷ []) unused unused (5 ∷ 0 ∷ 0 ∷ 0 ∷ []) ≡ refused 10)
+      × (map (atBallot 2 5 0) (1 ∷ 2 ∷ 3 ∷ 255 ∷ []) ≡ accepted (Slot 0) ∷ refused 10 ∷ accepted (Slot 0) ∷ accepted (Slot 0) ∷ [])
+      × (map (atBallot 3 5 2) (2 ∷ 3 ∷ 6 ∷ 254 ∷ 255 ∷ []) ≡ refused 10 ∷ accepted (Slot 0) ∷ accepted (Slot 0) ∷ refused 10 ∷ accepted (Slot 0) ∷ [])
+      × (map (atBallot 4 5 0) (0 ∷ 1 ∷ 2 ∷ 4 ∷ 5 ∷ 253 ∷ []) ≡ refused 10 ∷ accepted (Slot 0) ∷ refused 10 ∷ refused 10 ∷ accepted (Slot 0) ∷ accepted (Slot 0) ∷ [])
+      × (map (atBallot 4 5 1) (0 ∷ 1 ∷ 2 ∷ 4 ∷ 5 ∷ 254 ∷ []) ≡ refused 10 ∷ refused 10 ∷ accepted (Slot 0) ∷ refused 10 ∷ refused 10 ∷ accepted (Slot 0) ∷ [])
+      × (map (atBallot 4 5 3) (0 ∷ 1 ∷ 3 ∷ 4 ∷ 255 ∷ []) ≡ refused 10 ∷ refused 10 ∷ refused 10 ∷ accepted (Slot 0) ∷ refused 10 ∷ [])
+      × (map (atBallot 4 6 2) (0 ∷ 2 ∷ 3 ∷ 255 ∷ []) ≡ refused 10 ∷ refused 10 ∷ refused 12 ∷ refused 12 ∷ [])
+      × (on (0 ∷ []) (0 ∷ 0 ∷ 0 ∷ []) (0x30 ∷ 1 ∷ 1 ∷ 2 ∷ 0 ∷ 0 ∷ 0 ∷ 0 ∷ []) unused (2 ∷ 0 ∷ 0 ∷ 0 ∷ []) ≡ refused 11)
+      × (on (3 ∷ []) (0 ∷ 0 ∷ 0 ∷ []) (0x30 ∷ 1 ∷ 1 ∷ 2 ∷ 0 ∷ 0 ∷ 0 ∷ 0 ∷ []) unused (2 ∷ 0 ∷ 0 ∷ 0 ∷ []) ≡ refused 11)
+      × (on (2 ∷ []) (0 ∷ 0 ∷ 0 ∷ []) (0x30 ∷ 2 ∷ 1 ∷ 2 ∷ 0 ∷ 0 ∷ 0 ∷ 0 ∷ []) unused (2 ∷ 0 ∷ 0 ∷ 0 ∷ []) ≡ refused 11)
+      × (on (1 ∷ []) (0 ∷ 0 ∷ 0 ∷ []) unused unused (0 ∷ 0 ∷ 0 ∷ 0 ∷ []) ≡ refused 12)
+      × (on (0 ∷ []) (0 ∷ 0 ∷ 0 ∷ []) (0x30 ∷ 2 ∷ 1 ∷ 2 ∷ 0 ∷ 0 ∷ 0 ∷ 0 ∷ []) unused (0 ∷ 0 ∷ 0 ∷ 0 ∷ []) ≡ refused 13)
+      × (on (0 ∷ []) (0 ∷ 0 ∷ 0 ∷ []) (0x27 ∷ 0 ∷ 0 ∷ 1 ∷ 1 ∷ 2 ∷ 0 ∷ 0 ∷ []) (0x27 ∷ 0 ∷ 0 ∷ 2 ∷ 1 ∷ 2 ∷ 0 ∷ 0 ∷ []) (4 ∷ 0 ∷ 0 ∷ 0 ∷ [])
+      ≡ refused 14)
+
+pub computed : Computed
 unfolding readMessage andThen refuseIf isPlan isCount isValue isVote isInRange bytesOf bytesOf1b messageLength slotOf mapLength isKnown ones
     fieldsMessage decode hasOrder all isTableLength slotsUpTo slots isZero readSlot readTable allUnused isOrdered isTable usedMessages
-    messages sameBytes storeAt sameMessage placeFrom placeIn messageAt sending slotNumber whoLimit areZero areArguments isEvent
-    areStates rmJudged rmChoose rmReceiveDecision rmReceive rmKind rmVerdict rmStep voteAt
-    isVoteState areVotes acceptorJudged voteOf phase1b phase2b acceptorReceive acceptorVerdict acceptorStep countAcceptors isMajority
-    isQuorum any is1b is2a is2b higher reportOf highestReport proposal chosen isChosen2b decided forAll forSome owns leaderJudged
-    receiptStore receipt phase1a phase2aMessage keepOwn sendBoth phase2a sendOnly decideSend leaderKind leaderVerdictBy leaderStepBy
-    inboxSize inboxOf withInbox areLengths areInboxes recordJudged roleStep recordStep
-refusals = (refl, refl, refl, refl, refl, refl, refl, refl, refl, refl, refl, refl, refl, refl, refl, refl, refl, refl, refl, refl, refl, refl, refl, refl, refl, refl, refl, refl, refl)
+    messages sameBytes storeAt sameMessage placeFrom placeIn messageAt sending slotNumber whoLimit areZero areArguments isEvent areStates
+    rmJudged rmChoose rmReceiveDecision rmReceive rmKind rmVerdict rmStep voteAt isVoteState areVotes acceptorJudged voteOf phase1b phase2b
+    acceptorReceive acceptorVerdict acceptorStep countAcceptors isMajority isQuorum any is1b is2a is2b higher reportOf highestReport
+    proposal chosen isChosen2b decided forAll forSome owns leaderJudged receiptStore receipt phase1a phase2aMessage keepOwn sendBoth phase2a
+    sendOnly decideSend leaderKind leaderVerdictBy leaderStepBy inboxSize inboxOf withInbox areLengths areInboxes recordJudged roleStep
+    recordStep runJudged finishedRun recordRun
+computed =
+    record {
+      orders-end = (refl, refl, refl, refl, refl, refl);
+      lists-end = (refl, refl, refl, refl, refl, refl, refl, refl, refl, refl);
+      mixed-ends = (refl, refl);
+      places = refl;
+      order-examples = refl;
+      refusals = (refl, refl, refl, refl, refl, refl, refl, refl, refl, refl, refl, refl, refl, refl, refl, refl, refl, refl, refl, refl, refl, refl, refl, refl, refl, refl, refl, refl, refl);
+    }
