@@ -1,8 +1,7 @@
 -- What the match of the event call with module PaxosCommit speaks of. The theorems are in Theorems.antt, their proofs in Record/.
 --     recordState    the variables rmState, aState and msgs, as W, Q and N hold them
 --     ownInbox       the inbox of the event's leader
---     tableRows, rmTableRows, acceptorTableRows, leaderTableRows     the rows that judge the plan and the tables
---     recordRows     the rows of "Refusals by place" for the event call
+--     tableRows, eventRows, recordRows     the rows of "Refusals by place" for the event call: of the plan and the tables, of the event, and all
 --     SoundStates, SoundVotes, SoundInboxes, SoundOthers     the tables that a role's own call is not lent
 --     EventForm, inboxesUpTo     row 7 and the parts of I in document 01's words
 --     Acted          what an accepted event call does: a case for each published action, and for the receipt
@@ -98,36 +97,10 @@ tableRows p t rest =
     (row 6 ((l : ℕ) × (l < p .leaders) × (isTable p (inboxOf p (t .inboxes) l) ≡ false))
     rest)))))
 
--- of a role's own call: the plan and its two tables
-abbrev pub rmTableRows : Plan → List ℕ → List ℕ → Rows
-rmTableRows p states network =
-    row 1 (isPlan p ≡ false)
-    (row 2 ((length states ≡ p .rms → ⊥) ⊎ (isTableLength (length network) ≡ false))
-    (row 3 (areStates states ≡ false)
-    (row 5 (isTable p network ≡ false)
-    end)))
-
-abbrev pub acceptorTableRows : Plan → List ℕ → List ℕ → Rows
-acceptorTableRows p votes network =
-    row 1 (isPlan p ≡ false)
-    (row 2 ((length votes ≡ 3 * (p .rms * p .acceptors) → ⊥) ⊎ (isTableLength (length network) ≡ false))
-    (row 4 (areVotes votes ≡ false)
-    (row 5 (isTable p network ≡ false)
-    end)))
-
-abbrev pub leaderTableRows : Plan → List ℕ → List ℕ → Rows
-leaderTableRows p inbox network =
-    row 1 (isPlan p ≡ false)
-    (row 2 ((isTableLength (length inbox) ≡ false) ⊎ (isTableLength (length network) ≡ false))
-    (row 5 (isTable p network ≡ false)
-    (row 6 (isTable p inbox ≡ false)
-    end)))
-
--- the event call: the plan, the four tables, the event, and the rows of all nine kinds
-abbrev pub recordRows : Plan → Tables → List ℕ → Rows
-recordRows p t e =
-    tableRows p t
-    (row 7 (isEvent p e ≡ false)
+-- the event, and the rows of all nine kinds
+abbrev pub eventRows : Plan → Tables → List ℕ → Rows
+eventRows p t e =
+    row 7 (isEvent p e ≡ false)
     (row 8 ((2 ≤ kindOf e) × (kindOf e ≤ 4) × SlotUnused p (t .network) e)
     (row 9 (NotTaken p t e)
     (row 10 (NotOwned p e)
@@ -135,7 +108,11 @@ recordRows p t e =
     (guard 12 (Disabled p t e)
     (row 13 (Full p t e)
     (row 14 (Leader.InboxFull p (ownInbox p t e) (t .network) e)
-    end))))))))
+    end)))))))
+
+-- the event call
+abbrev pub recordRows : Plan → Tables → List ℕ → Rows
+recordRows p t e = tableRows p t (eventRows p t e)
 
 -- row 7: who is a resource manager, an acceptor or a leader; kinds 0, 1, 7 and 8 have zeros, 5 and 6 an instance and any ballot
 abbrev pub EventForm : Plan → ℕ → ℕ → ℕ → ℕ → Type 0

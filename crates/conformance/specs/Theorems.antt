@@ -31,7 +31,10 @@ use Rattle.rm.specs.Rm.{rmJudged, rmStep}
 use Rattle.acceptor.specs.Acceptor.{acceptorJudged, acceptorStep}
 use Rattle.leader.specs.Leader.{leaderJudged, leaderStep}
 use Rattle.record.specs.Record.{Tables, tablesOf, inboxOf, recordJudged, recordOpen, RecordStep, onStates, onVotes, onInbox, recordStep}
-use Rattle.conformance.specs.Record.{WrongLengths, recordRows, tableRows, rmTableRows, acceptorTableRows, leaderTableRows, SoundStates}
+use Rattle.matching.specs.Rm.{rmTableRows}
+use Rattle.matching.specs.Acceptor.{acceptorTableRows}
+use Rattle.matching.specs.Leader.{leaderTableRows}
+use Rattle.conformance.specs.Record.{WrongLengths, recordRows, tableRows, SoundStates}
 use Rattle.conformance.specs.Record.{SoundVotes, SoundInboxes, SoundOthers, Acted}
 use Rattle.conformance.specs.Record.Ruled.{record-ruled}
 use Rattle.conformance.specs.Record.Opened as Opened
@@ -94,9 +97,9 @@ judge-answers p t = lowest-of-ruled _ refl _ (record-judges p t)
 
 -- a role's: the plan, its two tables
 pub role-judges : (p : Plan)
-    → ((states network : List ℕ) → Lowest (rmTableRows p states network) (rmJudged p states network))
-    × ((votes network : List ℕ) → Lowest (acceptorTableRows p votes network) (acceptorJudged p votes network))
-    × ((inbox network : List ℕ) → Lowest (leaderTableRows p inbox network) (leaderJudged p inbox network))
+    → ((states network : List ℕ) → Lowest (rmTableRows p states network end) (rmJudged p states network))
+    × ((votes network : List ℕ) → Lowest (acceptorTableRows p votes network end) (acceptorJudged p votes network))
+    × ((inbox network : List ℕ) → Lowest (leaderTableRows p inbox network end) (leaderJudged p inbox network))
 unfolding isAscending
 role-judges p = (
   λ states network. lowest-of-ruled _ refl _ (rm-judges p states network),

@@ -14,7 +14,7 @@
 --     inboxes-joined, inboxes-up-to, inbox-replaced     I is its L inboxes one after the other, each of one size; one is replaced without the others
 --     sound-words                   the tables that a role's own call is not lent are as rows 2, 3, 4 and 6 ask
 --     lowest-words                  what `Lowest` says of an answer
---     tables-mean, exchanged-mean, open-means, step-means, role-means, read-means     what the records and enums in the contracts stand for: nothing but their parts
+--     tables-mean, replaced-mean, open-means, step-means, role-means, read-means     what the records and enums in the contracts stand for: nothing but their parts
 -- Assumes nothing.
 use Prim.Native.Nat.{ℕ, suc, _+_, _-_, _*_, _%_, _≤_, _<_}
 use mathlib.Core.Bool.{Bool, true}
@@ -125,13 +125,13 @@ pub tables-mean : (w q n i : List ℕ)
     → (tablesOf w q n i .states ≡ w) × (tablesOf w q n i .votes ≡ q) × (tablesOf w q n i .network ≡ n) × (tablesOf w q n i .inboxes ≡ i)
 tables-mean w q n i = (refl, refl, refl, refl)
 
--- one table exchanged, and the others as they were
-pub exchanged-mean : (w q n i x : List ℕ)
+-- one table replaced, and the others as they were
+pub replaced-mean : (w q n i x : List ℕ)
     → (withStates (tablesOf w q n i) x ≡ tablesOf x q n i)
     × (withVotes (tablesOf w q n i) x ≡ tablesOf w x n i)
     × (withNetwork (tablesOf w q n i) x ≡ tablesOf w q x i)
     × (withInboxes (tablesOf w q n i) x ≡ tablesOf w q n x)
-exchanged-mean w q n i x = (refl, refl, refl, refl)
+replaced-mean w q n i x = (refl, refl, refl, refl)
 
 -- an answer in a contract is the acceptance with its values, or the number, and the tables are as they are lent
 pub open-means : (k : ℕ) (t : Tables)

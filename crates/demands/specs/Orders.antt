@@ -26,10 +26,9 @@ use Rattle.paxos_commit.specs.PaxosCommit.{State}
 use Rattle.matching.specs.Rm.{rmRows}
 use Rattle.matching.specs.Acceptor.{acceptorRows}
 use Rattle.matching.specs.Leader.{leaderRows}
-use Rattle.conformance.specs.Record.{recordRows}
-use Rattle.batch.specs.Rows.{runRows}
-use Rattle.demands.specs.Orders.Laws.{slice-row, slice-number, network-row, inbox-row, list-network-row, list-inbox-row, rm-row, acceptor-row, leader-row}
-use Rattle.demands.specs.Orders.Laws.{leader-inbox-row}
+use Rattle.conformance.specs.Record.{eventRows, recordRows}
+use Rattle.batch.specs.Rows.{listRows, runRows}
+use Rattle.demands.specs.Orders.Laws.{slice-row, slice-number, network-row, inbox-row, rm-row, acceptor-row, leader-row, leader-inbox-row}
 
 module _ (p q : Plan) (differs : p .order ≡ q .order → ⊥) (m : Message) (given : writeMessage q m .number ≡ 0) where
   pub other-order-slice :
@@ -40,12 +39,15 @@ module _ (p q : Plan) (differs : p .order ≡ q .order → ⊥) (m : Message) (g
   pub other-order-record : (t : Tables) (e : List ℕ)
       → (List·Memᴰ (writeMessage q m .bytes) (slots (t .network)) → Applies (recordRows p t e) 5)
       × ((l : ℕ) → l < p .leaders → List·Memᴰ (writeMessage q m .bytes) (slots (inboxOf p (t .inboxes) l)) → Applies (recordRows p t e) 6)
-  other-order-record t e = (network-row p q differs m given t e, inbox-row p q differs m given t e)
+  other-order-record t e = (network-row p q differs m given t (eventRows p t e), inbox-row p q differs m given t (eventRows p t e))
 
   pub other-order-list : (t : Tables) (events answers : List ℕ)
       → (List·Memᴰ (writeMessage q m .bytes) (slots (t .network)) → Applies (runRows p t events answers) 5)
       × ((l : ℕ) → l < p .leaders → List·Memᴰ (writeMessage q m .bytes) (slots (inboxOf p (t .inboxes) l)) → Applies (runRows p t events answers) 6)
-  other-order-list t events answers = (list-network-row p q differs m given t events answers, list-inbox-row p q differs m given t events answers)
+  other-order-list t events answers = (
+    network-row p q differs m given t (listRows events answers),
+    inbox-row p q differs m given t (listRows events answers),
+  )
 
   pub other-order-roles : (table network e : List ℕ) (s : State)
       → (List·Memᴰ (writeMessage q m .bytes) (slots network) → Applies (rmRows p table network e s) 5)

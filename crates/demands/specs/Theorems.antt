@@ -32,12 +32,12 @@ use Rattle.record.specs.Record.{Tables, inboxOf, RecordStep, recordStep, record
 use Rattle.matching.specs.Reading.{isRM, isAcceptor, isMajoritySet}
 use Rattle.matching.specs.Call.{Accepted, Enabled}
 use Rattle.matching.specs.Theorems.{rm-answers, rm-keeps, acceptor-answers, acceptor-keeps, leader-answers, leader-keeps}
-use Rattle.conformance.specs.Record.{recordState, recordRows, Acted}
+use Rattle.conformance.specs.Record.{recordState, eventRows, recordRows, Acted}
 use Rattle.conformance.specs.Action.{Action, Copies}
 use Rattle.conformance.specs.Action.Laws.{action-acted, copies-acted, enabled-no-row}
 use Rattle.conformance.specs.Theorems.{record-answers, record-keeps, record-acts, open-answers, open-keeps}
 use Rattle.batch.specs.Run.{eventsOf, numbersOf, recordRun}
-use Rattle.batch.specs.Rows.{runRows}
+use Rattle.batch.specs.Rows.{listRows, runRows}
 use Rattle.batch.specs.Theorems.{run-answers, run-keeps}
 use Rattle.safety.specs.Lists.{Fresh, Call, event, run, made, AfterEach, Safe, tablesAfter}
 use Rattle.safety.specs.Theorems as Safety
@@ -46,7 +46,7 @@ use Rattle.safety.specs.Words.{SafeInWords}
 use Rattle.safety.specs.Behaviour.{action-published}
 use Rattle.demands.specs.Answer.{AcceptedOr, KeepsOwn}
 use Rattle.demands.specs.Answer.Laws.{isWithin, accepted-or}
-use Rattle.demands.specs.Orders.Laws.{network-row, inbox-row, list-network-row, list-inbox-row, rm-row, acceptor-row, leader-row, leader-inbox-row}
+use Rattle.demands.specs.Orders.Laws.{network-row, inbox-row, rm-row, acceptor-row, leader-row, leader-inbox-row}
 
 module _ (p : Plan) (t : Tables) where
   pub demand-1 : (e : List ℕ)
@@ -168,8 +168,8 @@ module _ (p q : Plan) (differs : p .order ≡ q .order → ⊥) (m : Message) (g
       → Accepted (recordStep p t e .answer) → ⊥)
   orders-apart = (
     (λ n. other-written p q m n differs given),
-    (λ t e there taken. record-answers p t e .accepts .0 taken 5 (network-row p q differs m given t e there)),
-    λ t e l own there taken. record-answers p t e .accepts .0 taken 6 (inbox-row p q differs m given t e l own there),
+    (λ t e there taken. record-answers p t e .accepts .0 taken 5 (network-row p q differs m given t (eventRows p t e) there)),
+    λ t e l own there taken. record-answers p t e .accepts .0 taken 6 (inbox-row p q differs m given t (eventRows p t e) l own there),
   )
 
   pub orders-apart-list : (t : Tables) (events answers : List ℕ)
@@ -177,8 +177,8 @@ module _ (p q : Plan) (differs : p .order ≡ q .order → ⊥) (m : Message) (g
       × ((l : ℕ) → l < p .leaders → List·Memᴰ (writeMessage q m .bytes) (slots (inboxOf p (t .inboxes) l))
       → recordRun p t events answers .answer ≡ accepted tt → ⊥)
   orders-apart-list t events answers = (
-    (λ there taken. run-answers p t events answers .accepts .0 (tt, taken) 5 (list-network-row p q differs m given t events answers there)),
-    λ l own there taken. run-answers p t events answers .accepts .0 (tt, taken) 6 (list-inbox-row p q differs m given t events answers l own there),
+    (λ there taken. run-answers p t events answers .accepts .0 (tt, taken) 5 (network-row p q differs m given t (listRows events answers) there)),
+    λ l own there taken. run-answers p t events answers .accepts .0 (tt, taken) 6 (inbox-row p q differs m given t (listRows events answers) l own there),
   )
 
   pub orders-apart-roles : (table network e : List ℕ)

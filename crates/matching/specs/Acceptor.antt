@@ -4,7 +4,7 @@
 --     reportOf                         the 1b that is sent
 --     isTaken, InSlot                  the messages that an acceptor takes; what the event's slot holds
 --     Disabled, Full                   rows 12 and 13
---     acceptorRows                     the rows of "Refusals by place" for the call
+--     acceptorTableRows, acceptorRows  the rows of "Refusals by place" for the call: those of its plan and tables, and all
 -- Assumes nothing.
 pub mod Votes
 pub mod Ruled
@@ -71,16 +71,22 @@ Full p votes network e =
     ((ins bal : ℕ) × InSlot p network e (Phase1a ins bal) × (HasRoom p network (reportOf p votes (whoOf e) ins bal) → ⊥))
     ⊎ ((ins bal val : ℕ) × InSlot p network e (Phase2a ins bal val) × (HasRoom p network (Phase2b ins (whoOf e) bal val) → ⊥))
 
--- an acceptor's own call: the plan, its two tables, the event, and the rows of kind 3
-abbrev pub acceptorRows : Plan → List ℕ → List ℕ → List ℕ → State → Rows
-acceptorRows p votes network e s =
+-- an acceptor's own call: the plan and its two tables, then the rows below
+abbrev pub acceptorTableRows : Plan → List ℕ → List ℕ → Rows → Rows
+acceptorTableRows p votes network rest =
     row 1 (isPlan p ≡ false)
     (row 2 ((length votes ≡ 3 * (p .rms * p .acceptors) → ⊥) ⊎ (isTableLength (length network) ≡ false))
     (row 4 (areVotes votes ≡ false)
     (row 5 (isTable p network ≡ false)
+    rest)))
+
+-- with the event, and the rows of kind 3
+abbrev pub acceptorRows : Plan → List ℕ → List ℕ → List ℕ → State → Rows
+acceptorRows p votes network e s =
+    acceptorTableRows p votes network
     (row 7 ((isEvent p e ≡ false) ⊎ (kindOf e ≡ 3 → ⊥))
     (row 8 (SlotUnused p network e)
     (row 9 (SlotHolds p network e (λ m. isTaken m ≡ false))
     (guard 12 (Disabled p network e s)
     (row 13 (Full p votes network e)
-    end))))))))
+    end)))))

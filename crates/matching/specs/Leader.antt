@@ -2,10 +2,11 @@
 --     Phase1aAction, Phase2aAction     the actions at a plan's constants; `seen` is what Phase2a's conditions are read from
 --     CommitBy, AbortBy, DecidedIn     Decide, by what counts as decided; what is decided by the messages of a set
 --     CommitAction, AbortAction        Decide by the messages of a set
---     stateOf                  the variables of module PaxosCommit: msgs as N holds them; a leader changes no other
---     isReceived, proposed, Reports     the messages that a leader takes; the 2a that it proposes; the votes that 1b messages report
+--     stateOf                          the variables of module PaxosCommit: msgs as N holds them; a leader changes no other
+--     isReceived, proposed, Reports    the messages that a leader takes; the 2a that it proposes; the votes that 1b messages report
 --     NotOwned, DisabledBy, Disabled, Full, InboxFull     rows 10, 12, 13 and 14
---     leaderRowsBy, leaderRows the rows of "Refusals by place" for the call
+--     leaderTableRows                  the rows of "Refusals by place" for the call: those of its plan and tables
+--     leaderRowsBy, leaderRows         all of them, by what counts as decided; with Decided read from the inbox
 -- Assumes nothing.
 pub mod Decided
 pub mod Conditions
@@ -91,6 +92,7 @@ DisabledBy p Decided inbox e s =
     ((kindOf e ≡ 7) × (Enabled p (CommitBy p Decided) s → ⊥))
     ((kindOf e ≡ 8) × (Enabled p (AbortBy p Decided) s → ⊥)))
 
+-- with Decided read from the inbox
 abbrev pub Disabled : Plan → List ℕ → List ℕ → State → Type 1
 Disabled p inbox = DisabledBy p (DecidedIn p (setOf (messages p inbox))) inbox
 
@@ -108,13 +110,19 @@ InboxFull p inbox network e =
     ((kindOf e ≡ 4) × SlotHolds p network e (λ m. HasRoom p inbox m → ⊥))
     ⊎ ((kindOf e ≡ 6) × (HasRoom p inbox (proposed p inbox e) → ⊥))
 
--- a leader's own call: the plan, its two tables, the event, and the rows of kinds 4 to 8
-abbrev pub leaderRowsBy : Plan → (ℕ → Val → Type 0) → List ℕ → List ℕ → List ℕ → State → Rows
-leaderRowsBy p Decided inbox network e s =
+-- a leader's own call: the plan and its two tables, then the rows below
+abbrev pub leaderTableRows : Plan → List ℕ → List ℕ → Rows → Rows
+leaderTableRows p inbox network rest =
     row 1 (isPlan p ≡ false)
     (row 2 ((isTableLength (length inbox) ≡ false) ⊎ (isTableLength (length network) ≡ false))
     (row 5 (isTable p network ≡ false)
     (row 6 (isTable p inbox ≡ false)
+    rest)))
+
+-- with the event, and the rows of kinds 4 to 8
+abbrev pub leaderRowsBy : Plan → (ℕ → Val → Type 0) → List ℕ → List ℕ → List ℕ → State → Rows
+leaderRowsBy p Decided inbox network e s =
+    leaderTableRows p inbox network
     (row 7 ((isEvent p e ≡ false) ⊎ (kindOf e < 4))
     (row 8 ((kindOf e ≡ 4) × SlotUnused p network e)
     (row 9 ((kindOf e ≡ 4) × SlotHolds p network e (λ m. isReceived m ≡ false))
@@ -122,8 +130,8 @@ leaderRowsBy p Decided inbox network e s =
     (guard 12 (DisabledBy p Decided inbox e s)
     (row 13 (Full p inbox network e)
     (row 14 (InboxFull p inbox network e)
-    end))))))))))
+    end)))))))
 
--- Decided is read from the inbox
+-- with Decided read from the inbox
 abbrev pub leaderRows : Plan → List ℕ → List ℕ → List ℕ → State → Rows
 leaderRows p inbox = leaderRowsBy p (DecidedIn p (setOf (messages p inbox))) inbox

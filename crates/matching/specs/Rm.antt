@@ -2,7 +2,7 @@
 --     RMPrepare, RMChooseToAbort, RMRcvCommitMsg, RMRcvAbortMsg     the actions at a plan's constants
 --     stateOf                  the variables of module PaxosCommit, as W and N hold them
 --     isDecision, Contradicts, Disabled, Full     the messages that a resource manager takes; rows 11, 12 and 13
---     rmRows                   the rows of "Refusals by place" for the call
+--     rmTableRows, rmRows      the rows of "Refusals by place" for the call: those of its plan and tables, and all
 -- Assumes nothing.
 pub mod Ruled
 pub mod Laws
@@ -68,17 +68,23 @@ Full p network e =
     ((kindOf e ≡ 0) × (HasRoom p network (Phase2a (whoOf e) 0 1) → ⊥))
     ⊎ ((kindOf e ≡ 1) × (HasRoom p network (Phase2a (whoOf e) 0 2) → ⊥))
 
--- a resource manager's own call: the plan, its two tables, the event, and the rows of kinds 0, 1 and 2
-abbrev pub rmRows : Plan → List ℕ → List ℕ → List ℕ → State → Rows
-rmRows p states network e s =
+-- a resource manager's own call: the plan and its two tables, then the rows below
+abbrev pub rmTableRows : Plan → List ℕ → List ℕ → Rows → Rows
+rmTableRows p states network rest =
     row 1 (isPlan p ≡ false)
     (row 2 ((length states ≡ p .rms → ⊥) ⊎ (isTableLength (length network) ≡ false))
     (row 3 (areStates states ≡ false)
     (row 5 (isTable p network ≡ false)
+    rest)))
+
+-- with the event, and the rows of kinds 0, 1 and 2
+abbrev pub rmRows : Plan → List ℕ → List ℕ → List ℕ → State → Rows
+rmRows p states network e s =
+    rmTableRows p states network
     (row 7 ((isEvent p e ≡ false) ⊎ (2 < kindOf e))
     (row 8 ((kindOf e ≡ 2) × SlotUnused p network e)
     (row 9 ((kindOf e ≡ 2) × SlotHolds p network e (λ m. isDecision m ≡ false))
     (row 11 ((kindOf e ≡ 2) × SlotHolds p network e (λ m. Contradicts (rmStateOf states (whoOf e)) m))
     (guard 12 (Disabled p e s)
     (row 13 (Full p network e)
-    end)))))))))
+    end))))))

@@ -49,13 +49,12 @@ use mathlib.Core.List.{List·Memᴰ}
 use Rattle.quorum.specs.Quorum.{isQuorum}
 use Rattle.message.specs.declared.Vote.the-variants.{Cast}
 use Rattle.message.specs.Plan.{isPlan}
-use Rattle.inbox.specs.Inbox.{decided}
 use Rattle.leader.specs.Leader.{owns, leaderJudged, leaderStep}
 use Rattle.matching.specs.Leader.{Phase1aAction, Phase2aAction, CommitAction, AbortAction, DecidedIn, proposed, Reports, leaderRows}
 use Rattle.matching.specs.Leader.{stateOf as leaderState}
-use Rattle.matching.specs.Leader.Conditions.{reads-inbox}
+use Rattle.matching.specs.Leader.Conditions.{reflects-inbox}
 use Rattle.matching.specs.Leader.Ruled.{leader-ruled}
-use Rattle.matching.specs.Leader.Took.{Took, took as leader-took}
+use Rattle.matching.specs.Leader.Took.{took as leader-took}
 use Rattle.matching.specs.Leader.Laws as Leader
 
 -- module PaxosCommit's ASSUME at a plan's constants
@@ -203,25 +202,22 @@ module _ (p : Plan) (inbox network e : List ℕ) where
   module _ (rmState : ℕ → ℕ) (aState : ℕ → ℕ → AState) where
     pub leader-answers : Lowest (leaderRows p inbox network e (leaderState p network rmState aState)) (leader .answer)
     unfolding isAscending
-    leader-answers = lowest-of-ruled _ refl _ (leader-ruled p _ (DecidedIn p seen) inbox network e (reads-inbox p _) rmState aState)
+    leader-answers = lowest-of-ruled _ refl _ (leader-ruled p _ (DecidedIn p seen) inbox network e (reflects-inbox p _) rmState aState)
 
     module _ (taken : Accepted (leader .answer)) where
-      took : Took p (decided p (messages p inbox)) inbox network e
-      took = leader-took p _ inbox network e taken
-
       -- kind 4: quiet; N keeps its bytes, and the inbox gains the message in the slot
       pub leader-receipt : kindOf e ≡ 4 → (m : Wire.Message) → messageAt (messages p network) (slotNumber e) ≡ accepted m
           → (leader .answer ≡ accepted Quiet)
           × (leader .network ≡ network)
           × Stores p inbox m (leader .table)
-      leader-receipt = Leader.receipt-acts rmState aState took
+      leader-receipt = Leader.receipt-acts rmState aState (leader-took p _ inbox network e taken)
 
       -- kind 5: Phase1a
       pub leader-phase1a : kindOf e ≡ 5
           → Phase1aAction p (lowOf e) (highOf e) (leaderState p network rmState aState) (leaderState p (leader .network) rmState aState)
           × Sends p network (Phase1a (highOf e) (lowOf e)) (leader .answer) (leader .network)
           × (leader .table ≡ inbox)
-      leader-phase1a kind = Leader.phase1a-acts rmState aState took kind .0
+      leader-phase1a kind = Leader.phase1a-acts rmState aState (leader-took p _ inbox network e taken) kind .0
 
       -- kind 6: Phase2a, its conditions read from the inbox; what the action sends, what N gains and what the inbox gains is one message
       pub leader-phase2a : kindOf e ≡ 6
@@ -229,21 +225,21 @@ module _ (p : Plan) (inbox network e : List ℕ) where
           × (phase2a (highOf e) (lowOf e) (acts .1 .2) ≡ messageOf (proposed p inbox e))
           × Sends p network (proposed p inbox e) (leader .answer) (leader .network)
           × Stores p inbox (proposed p inbox e) (leader .table)
-      leader-phase2a kind = Leader.phase2a-acts rmState aState took kind .0
+      leader-phase2a kind = Leader.phase2a-acts rmState aState (leader-took p _ inbox network e taken) kind .0
 
       -- kind 7: Decide to commit
       pub leader-commit : kindOf e ≡ 7
           → CommitAction p seen (leaderState p network rmState aState) (leaderState p (leader .network) rmState aState)
           × Sends p network (Decision 1) (leader .answer) (leader .network)
           × (leader .table ≡ inbox)
-      leader-commit kind = Leader.commit-acts rmState aState took (DecidedIn p seen) (reads-inbox p _) kind .0
+      leader-commit kind = Leader.commit-acts rmState aState (leader-took p _ inbox network e taken) (DecidedIn p seen) (reflects-inbox p _) kind .0
 
       -- kind 8: Decide to abort
       pub leader-abort : kindOf e ≡ 8
           → AbortAction p seen (leaderState p network rmState aState) (leaderState p (leader .network) rmState aState)
           × Sends p network (Decision 2) (leader .answer) (leader .network)
           × (leader .table ≡ inbox)
-      leader-abort kind = Leader.abort-acts rmState aState took (DecidedIn p seen) (reads-inbox p _) kind .0
+      leader-abort kind = Leader.abort-acts rmState aState (leader-took p _ inbox network e taken) (DecidedIn p seen) (reflects-inbox p _) kind .0
 
 -- a ballot above 0 has exactly one owner among the leaders of the plan
 pub one-owner : (p : Plan) → isPlan p ≡ true → (b : ℕ) → 0 < b

@@ -1,7 +1,7 @@
 -- The four tables of an order record, their lengths and opening them (document 01, "The plan and four tables", and rows 1 and 2 of "Refusals by
 -- place").
 --     Tables, tablesOf                   W, Q, N and I
---     withStates, withVotes, withNetwork, withInboxes     one of them exchanged
+--     withStates, withVotes, withNetwork, withInboxes     one of them replaced, I as a whole
 --     inboxSize, areLengths              the bytes of each of the L equal parts of I; row 2
 --     openJudged                         rows 1 and 2
 --     zeroed, Opening, openingOf, opened, recordOpen     opening a record: every byte zero
@@ -30,7 +30,7 @@ pub record Tables : Type 0 where
 abbrev pub tablesOf : List ℕ → List ℕ → List ℕ → List ℕ → Tables
 tablesOf states votes network inboxes = record { states = states; votes = votes; network = network; inboxes = inboxes }
 
--- the tables with one of them exchanged
+-- the tables with one of them replaced
 abbrev pub withStates : Tables → List ℕ → Tables
 withStates t states = tablesOf states (t .votes) (t .network) (t .inboxes)
 

@@ -1,6 +1,7 @@
 -- What `Acted` says of an accepted event call leaves nothing open: it determines the answer and every byte of the four tables.
 --     stores-one, sends-one     a message stored, and sent: one table, and one answer
 --     SentWith, QuietWith       the answer and the tables of a call that sends, and of one that does not
+--     moved, promised, voted, heard     the tables with what a kind changes in W, Q or I
 --     Given, given-one          what `Acted` gives for each kind; two calls of which it holds are one
 --     acted-one                 so for `Acted`
 -- Assumes nothing.

@@ -31,7 +31,7 @@ use Rattle.matching.specs.Rm.Ruled.{rm-ruled}
 use Rattle.matching.specs.Acceptor as Acceptor
 use Rattle.matching.specs.Acceptor.Ruled.{acceptor-ruled}
 use Rattle.matching.specs.Leader as Leader
-use Rattle.matching.specs.Leader.Conditions.{reads-inbox}
+use Rattle.matching.specs.Leader.Conditions.{reflects-inbox}
 use Rattle.matching.specs.Leader.Ruled.{leader-ruled}
 use Rattle.matching.specs.Call.{SlotUnused, SlotHolds}
 use Rattle.conformance.specs.Record.{recordState, ownInbox, WrongLengths, NotTaken, Disabled, Full, recordRows}
@@ -217,7 +217,7 @@ module _ (p : Plan) (t : Tables) (e : List ℕ) where
         (tail by-leader 5 _ _ (no-false (s .network-ordered))
         (tail by-leader 2 _ _ (λ h. ⊎-elim (no-false (inbox-whole p t s (whoOf e) (leader-who p e event large))) (no-false (s .network-whole)) h)
         (tail by-leader 1 _ _ (no-false (s .plan))
-        (leader-ruled p (ownDecided p t e) (Leader.DecidedIn p (setOf (messages p (ownInbox p t e)))) (ownInbox p t e) (t .network) e (reads-inbox p _)
+        (leader-ruled p (ownDecided p t e) (Leader.DecidedIn p (setOf (messages p (ownInbox p t e)))) (ownInbox p t e) (t .network) e (reflects-inbox p _)
         (rmStateOf (t .states)) (aStateOf p (t .votes))))))))
       where
         not-taken : NotTaken p t e → (kindOf e ≡ 4) × SlotHolds p (t .network) e (λ m. Leader.isReceived m ≡ false)

@@ -1,4 +1,5 @@
 -- The event call taken apart.
+--     rmPart, acceptorPart, leaderPart, ownDecided     the step of each role, and the test of its leader's kinds 7 and 8
 --     role-rm, role-acceptor, role-leader     the role's step by the event's kind
 --     step-role                               on a sound record an event call is the role's step
 --     Taken, taken                            so is an accepted one

@@ -1,7 +1,7 @@
 -- Another order's message as a slice and in a table, by the rows that apply.
 --     slice-row, slice-number               18
 --     bad-table                             a table with such a message is damaged
---     network-row, inbox-row                5 and 6 of the event call; list-network-row, list-inbox-row of the list call
+--     network-row, inbox-row                5 and 6 of the event call and of the list call
 --     rm-row, acceptor-row, leader-row, leader-inbox-row     and of the roles' own calls
 -- Assumes nothing.
 use Prim.Native.Nat.{ℕ, _<_}
@@ -17,7 +17,7 @@ use Rattle.message.specs.Form.{isInRange, slotOf}
 use Rattle.message.specs.Codec.{readMessage, writeMessage}
 use Rattle.message.specs.Codec.Laws.{writeMessage-accepted}
 use Rattle.message.specs.Codec.Answers.{writes, form-accepted}
-use Rattle.message.specs.Rows.{Applies, here, below}
+use Rattle.message.specs.Rows.{Rows, Applies, here, below}
 use Rattle.message.specs.Theorems.{form, readerRows, other-order, other-order-row}
 use Rattle.slots.specs.Table.{slots, isTable}
 use Rattle.slots.specs.Table.Foreign.{foreign-table}
@@ -26,8 +26,7 @@ use Rattle.paxos_commit.specs.PaxosCommit.{State}
 use Rattle.matching.specs.Rm.{rmRows}
 use Rattle.matching.specs.Acceptor.{acceptorRows}
 use Rattle.matching.specs.Leader.{leaderRows}
-use Rattle.conformance.specs.Record.{recordRows}
-use Rattle.batch.specs.Rows.{runRows}
+use Rattle.conformance.specs.Record.{tableRows}
 
 module _ (p q : Plan) (differs : p .order ≡ q .order → ⊥) (m : Message) (given : writeMessage q m .number ≡ 0) where
   pub slice-row : Applies (readerRows p (form (writeMessage q m))) 18
@@ -44,20 +43,13 @@ module _ (p q : Plan) (differs : p .order ≡ q .order → ⊥) (m : Message) (g
   bad-table : (table : List ℕ) → List·Memᴰ (writeMessage q m .bytes) (slots table) → isTable p table ≡ false
   bad-table table there = foreign-table p q differs m table (subst (λ (slot : List ℕ). List·Memᴰ slot (slots table)) bytes-are there)
 
-  module _ (t : Tables) (e : List ℕ) where
-    pub network-row : List·Memᴰ (writeMessage q m .bytes) (slots (t .network)) → Applies (recordRows p t e) 5
+  -- whatever rows come after the tables'
+  module _ (t : Tables) (rest : Rows) where
+    pub network-row : List·Memᴰ (writeMessage q m .bytes) (slots (t .network)) → Applies (tableRows p t rest) 5
     network-row there = below (below (below (below (here (refl, (bad-table (t .network) there, tt))))))
 
-    pub inbox-row : (l : ℕ) → l < p .leaders → List·Memᴰ (writeMessage q m .bytes) (slots (inboxOf p (t .inboxes) l)) → Applies (recordRows p t e) 6
+    pub inbox-row : (l : ℕ) → l < p .leaders → List·Memᴰ (writeMessage q m .bytes) (slots (inboxOf p (t .inboxes) l)) → Applies (tableRows p t rest) 6
     inbox-row l own there = below (below (below (below (below (here (refl, ((l, own, bad-table _ there), tt)))))))
-
-  module _ (t : Tables) (events answers : List ℕ) where
-    pub list-network-row : List·Memᴰ (writeMessage q m .bytes) (slots (t .network)) → Applies (runRows p t events answers) 5
-    list-network-row there = below (below (below (below (here (refl, (bad-table (t .network) there, tt))))))
-
-    pub list-inbox-row : (l : ℕ) → l < p .leaders → List·Memᴰ (writeMessage q m .bytes) (slots (inboxOf p (t .inboxes) l))
-        → Applies (runRows p t events answers) 6
-    list-inbox-row l own there = below (below (below (below (below (here (refl, ((l, own, bad-table _ there), tt)))))))
 
   module _ (table network e : List ℕ) (s : State) where
     pub rm-row : List·Memᴰ (writeMessage q m .bytes) (slots network) → Applies (rmRows p table network e s) 5

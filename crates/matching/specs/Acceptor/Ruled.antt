@@ -1,5 +1,6 @@
 -- The step of an acceptor answers by its rows.
 --     phase1b-ruled, phase2b-ruled     rows 12 and 13: a 1a is answered above mbal, a 2a from mbal on, where N has room
+--     acceptor-judges-then             the rows of the plan and the tables, and those below
 --     acceptor-ruled                   the rows, along the definition of the step
 -- Assumes nothing.
 use Prim.Native.Nat.{ℕ, _*_, _≤_, _<_}
@@ -33,8 +34,26 @@ use Rattle.matching.specs.Reading.{valOf, aStateOf}
 use Rattle.matching.specs.Call.{Enabled, HasRoom, SlotUnused, SlotHolds}
 use Rattle.matching.specs.Call.Laws.{member-at, slot-in-range, clash}
 use Rattle.matching.specs.Call.Laws.{ruled-judged, ruled-judged₂, ruled-sound, ruled-slot, ruled-sending, ruled-applied}
-use Rattle.matching.specs.Acceptor.{Phase1bAction, Phase2bAction, stateOf, reportOf, isTaken, InSlot, Disabled, Full, acceptorRows}
+use Rattle.matching.specs.Acceptor.{Phase1bAction, Phase2bAction, stateOf, reportOf, isTaken, InSlot, Disabled, Full, acceptorTableRows, acceptorRows}
 use Rattle.matching.specs.Acceptor.Votes.{entry-mbal}
+
+-- the plan and the two tables, and what is judged after them
+pub acceptor-judges-then : {A : Type 0} (p : Plan) (votes network : List ℕ) (after : Unit {0} → Outcome A) (rows : Rows)
+    → (isPlan p ≡ true → isTableLength (length network) ≡ true → isTable p network ≡ true → Ruled (after tt) rows)
+    → Ruled (andThen (acceptorJudged p votes network) after) (acceptorTableRows p votes network rows)
+unfolding acceptorJudged
+acceptor-judges-then p votes network after rows next =
+    ruled-judged after _ 1 _ _ _ (not-true (isPlan p)) (clash (isPlan p))
+    (λ plan. ruled-judged₂ after _ _ 2 _ _ _ (λ h. inl (eqb-false _ _ (not-true _ h))) (λ h. inr (not-true _ h)) lengths
+    (λ three whole. ruled-judged after _ 4 _ _ _ (not-true (areVotes votes)) (clash (areVotes votes))
+    (λ known. ruled-judged after _ 5 _ _ _ (not-true (isTable p network)) (clash (isTable p network))
+    (λ ordered. ruled-sound after tt _
+    (next (not-false (isPlan p) plan) (not-false (isTableLength (length network)) whole) (not-false (isTable p network) ordered))))))
+  where
+    lengths : not (eqb (length votes) (3 * (p .rms * p .acceptors))) ≡ false → not (isTableLength (length network)) ≡ false
+        → (length votes ≡ 3 * (p .rms * p .acceptors) → ⊥) ⊎ (isTableLength (length network) ≡ false) → ⊥
+    lengths h k (inl n) = n (eqb-true _ _ (not-false _ h))
+    lengths h k (inr n) = clash _ k n
 
 module _ (p : Plan) (votes network e : List ℕ) (rmState : ℕ → ℕ) where
   abbrev before : State
@@ -160,22 +179,8 @@ module _ (p : Plan) (votes network e : List ℕ) (rmState : ℕ → ℕ) where
   abbrev verdict : Unit {0} → Outcome Change
   verdict _ = acceptorVerdict p votes (viewTable p network) e
 
-  judged-ruled : Ruled (andThen (acceptorJudged p votes network) verdict) (acceptorRows p votes network e before)
-  unfolding acceptorJudged
-  judged-ruled =
-      ruled-judged verdict _ 1 _ _ _ (not-true (isPlan p)) (clash (isPlan p))
-      (λ plan. ruled-judged₂ verdict _ _ 2 _ _ _ (λ h. inl (eqb-false _ _ (not-true _ h))) (λ h. inr (not-true _ h)) lengths
-      (λ three whole. ruled-judged verdict _ 4 _ _ _ (not-true (areVotes votes)) (clash (areVotes votes))
-      (λ known. ruled-judged verdict _ 5 _ _ _ (not-true (isTable p network)) (clash (isTable p network))
-      (λ ordered. ruled-sound verdict tt _
-      (verdict-ruled (not-false (isPlan p) plan) (not-false (isTableLength (length network)) whole) (not-false (isTable p network) ordered))))))
-    where
-      lengths : not (eqb (length votes) (3 * (p .rms * p .acceptors))) ≡ false → not (isTableLength (length network)) ≡ false
-          → (length votes ≡ 3 * (p .rms * p .acceptors) → ⊥) ⊎ (isTableLength (length network) ≡ false) → ⊥
-      lengths h k (inl n) = n (eqb-true _ _ (not-false _ h))
-      lengths h k (inr n) = clash _ k n
-
   pub acceptor-ruled : Ruled (acceptorStep p votes network e .answer) (acceptorRows p votes network e before)
   unfolding acceptorStep
   acceptor-ruled =
-      ruled-applied p votes network (acceptorRows p votes network e before) (andThen (acceptorJudged p votes network) verdict) judged-ruled
+      ruled-applied p votes network (acceptorRows p votes network e before) (andThen (acceptorJudged p votes network) verdict)
+      (acceptor-judges-then p votes network verdict _ verdict-ruled)

@@ -5,7 +5,7 @@
 --     voted-seen, seen-voted           a 2b of (i, b, v) from an acceptor
 --     among, quorum-majority, majority-quorum, majority-some     a test that a majority passes
 --     decided-Decided, Decided-decided Decided(i, v)
---     reads-inbox                      so a leader that tests its inbox tests that
+--     reflects-inbox                   so a leader's test of its inbox reflects that
 -- Assumes nothing.
 use Prim.Native.Nat.{ℕ, zero, suc, _+_, _≤_, _<_, zero-le, suc-le-suc}
 use mathlib.Core.Bool.{Bool, true, false, _&&_, _||_, cond, false≢true}
@@ -27,7 +27,7 @@ use Rattle.inbox.specs.Inbox.{any, is1b, is2a, is2b, chosen, isChosen2b, decide
 use Rattle.paxos_commit.specs.PaxosCommit as Source
 use Rattle.matching.specs.Reading.{isMajoritySet, valOf, balOf, voteValOf, messageOf, setOf}
 use Rattle.matching.specs.Leader.{DecidedIn}
-use Rattle.matching.specs.Leader.Decided.{Reads}
+use Rattle.matching.specs.Leader.Decided.{Reflects}
 
 -- some message passes exactly when a member does
 module _ (test : Message → Bool) where
@@ -261,5 +261,5 @@ module _ (p : Plan) (ms : List Message) where
       member-any (isChosen2b p ms i v) ms (Phase2b i (a .0) b v) (member-2b ms i b p r v h (a .0) (d .3 (a .0) (a .1)))
       (and-true (eqb i i) _ (eq-eqb i i refl) (and-true (eqb v v) _ (eq-eqb v v refl) q))
 
-  pub reads-inbox : allInRange p ms ≡ true → Reads (decided p ms) Decided
-  reads-inbox r i v h = (decided-Decided i v, Decided-decided r i v h)
+  pub reflects-inbox : allInRange p ms ≡ true → Reflects (decided p ms) Decided
+  reflects-inbox r i v h = (decided-Decided i v, Decided-decided r i v h)

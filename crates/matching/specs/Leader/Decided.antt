@@ -1,7 +1,7 @@
--- What counts as decided, as a test that a step makes and as a claim of the source's kind.
---     Reads                    the test passes exactly where the claim holds
+-- What counts as decided, as a test that a step makes (`leaderStepBy` takes one) and as a claim (`CommitBy` and `leaderRowsBy` take one).
+--     Reflects                 the test passes exactly where the claim holds
 --     valueNumber, DecidedBy   the claim that a test itself makes
---     reads-by                 and the test reads it
+--     reflects-by              which it reflects
 -- Assumes nothing.
 use Prim.Native.Nat.{ℕ}
 use mathlib.Core.Bool.{Bool, true, false, cond}
@@ -15,8 +15,8 @@ use Rattle.message.specs.Form.{isValue}
 use Rattle.paxos_commit.specs.PaxosCommit.{Val, prepared, aborted, none}
 use Rattle.matching.specs.Reading.{valOf}
 
-abbrev pub Reads : (ℕ → ℕ → Bool) → (ℕ → Val → Type 0) → Type 0
-Reads isDecided Decided = (i v : ℕ) → isValue v ≡ true → (isDecided i v ≡ true) ↔ Decided i (valOf v)
+abbrev pub Reflects : (ℕ → ℕ → Bool) → (ℕ → Val → Type 0) → Type 0
+Reflects isDecided Decided = (i v : ℕ) → isValue v ≡ true → (isDecided i v ≡ true) ↔ Decided i (valOf v)
 
 abbrev pub valueNumber : Val → ℕ
 valueNumber prepared = 1
@@ -26,9 +26,9 @@ valueNumber none = 0
 abbrev pub DecidedBy : (ℕ → ℕ → Bool) → ℕ → Val → Type 0
 DecidedBy isDecided i v = isDecided i (valueNumber v) ≡ true
 
-pub reads-by : (isDecided : ℕ → ℕ → Bool) → Reads isDecided (DecidedBy isDecided)
+pub reflects-by : (isDecided : ℕ → ℕ → Bool) → Reflects isDecided (DecidedBy isDecided)
 unfolding isValue
-reads-by isDecided i v h = go (eqb v 1) refl
+reflects-by isDecided i v h = go (eqb v 1) refl
   where
     go : (b : Bool) → eqb v 1 ≡ b → (isDecided i v ≡ true) ↔ DecidedBy isDecided i (cond b prepared aborted)
     go true e = let one : v ≡ 1 = eqb-true v 1 e in rw one (λ d. d, λ d. d)

@@ -1,5 +1,5 @@
--- The tests of a leader's step and the published actions' conditions, over the messages in the inbox and what is decided: where the tests hold the action
--- leads to every state that sends its message, and an enabled action passes them.
+-- The tests of a leader's step and the published actions' conditions, over the messages in the inbox and what is decided: where the tests hold
+-- the action leads to every state that sends its message, and an enabled action passes them.
 --     Joins, joining, joins-joining                 a message was sent, and nothing else changed; there is such a state
 --     phase2a-acts, phase2a-new, phase2a-quorum     kind 6
 --     commit-acts, commit-test                      kind 7
@@ -23,7 +23,7 @@ use Rattle.paxos_commit.specs.PaxosCommit.{State}
 use Rattle.matching.specs.Reading.{isRM, isAcceptor, isMajoritySet, valOf, setOf}
 use Rattle.matching.specs.Call.{Enabled}
 use Rattle.matching.specs.Leader.{Phase2aAction, CommitBy, AbortBy}
-use Rattle.matching.specs.Leader.Decided.{Reads}
+use Rattle.matching.specs.Leader.Decided.{Reflects}
 use Rattle.matching.specs.Leader.Conditions.{phase2a-seen, seen-phase2a, reported-seen, seen-reported, among}
 use Rattle.matching.specs.Leader.Conditions.{quorum-majority, majority-quorum}
 use Rattle.inbox.specs.Inbox.Quantifiers.{forAll-all, all-forAll, forSome-some, some-forSome}
@@ -84,7 +84,7 @@ module _ (p : Plan) (ms : List Wire.Message) (i b : ℕ) where
       refl,
     )
 
-module _ (p : Plan) (isDecided : ℕ → ℕ → Bool) (Decided : ℕ → Source.Val → Type 0) (reads : Reads isDecided Decided) (s : State) where
+module _ (p : Plan) (isDecided : ℕ → ℕ → Bool) (Decided : ℕ → Source.Val → Type 0) (reflects : Reflects isDecided Decided) (s : State) where
   one : isValue 1 ≡ true
   unfolding isValue
   one = refl
@@ -94,15 +94,15 @@ module _ (p : Plan) (isDecided : ℕ → ℕ → Bool) (Decided : ℕ → Source
   two = refl
 
   pub commit-acts : forAll (p .rms) (λ i. isDecided i 1) ≡ true → (s′ : State) → Joins p Source.Commit s s′ → CommitBy p Decided s s′
-  commit-acts g s′ j = ((λ rm k. reads rm 1 one .0 (forAll-all _ (p .rms) g rm k)), j .sends, j .rm-same, j .acceptor-same)
+  commit-acts g s′ j = ((λ rm k. reflects rm 1 one .0 (forAll-all _ (p .rms) g rm k)), j .sends, j .rm-same, j .acceptor-same)
 
   pub abort-acts : forSome (p .rms) (λ i. isDecided i 2) ≡ true → (s′ : State) → Joins p Source.Abort s s′ → AbortBy p Decided s s′
   abort-acts g s′ j =
       let d = forSome-some _ (p .rms) g in
-      ((d .0, d .1, reads (d .0) 2 two .0 (d .2)), j .sends, j .rm-same, j .acceptor-same)
+      ((d .0, d .1, reflects (d .0) 2 two .0 (d .2)), j .sends, j .rm-same, j .acceptor-same)
 
   pub commit-test : Enabled p (CommitBy p Decided) s → forAll (p .rms) (λ i. isDecided i 1) ≡ true
-  commit-test a = all-forAll _ (p .rms) (λ rm k. reads rm 1 one .1 (a .1 .0 rm k))
+  commit-test a = all-forAll _ (p .rms) (λ rm k. reflects rm 1 one .1 (a .1 .0 rm k))
 
   pub abort-test : Enabled p (AbortBy p Decided) s → forSome (p .rms) (λ i. isDecided i 2) ≡ true
-  abort-test a = let d = a .1 .0 in some-forSome _ (p .rms) (d .0) (d .1) (reads (d .0) 2 two .1 (d .2))
+  abort-test a = let d = a .1 .0 in some-forSome _ (p .rms) (d .0) (d .1) (reflects (d .0) 2 two .1 (d .2))

@@ -45,7 +45,7 @@ use Rattle.matching.specs.Reading.{messageOf, setOf}
 use Rattle.matching.specs.Call.{Stores, Sends}
 use Rattle.matching.specs.Call.Laws.{member-at, andThen-accepted}
 use Rattle.matching.specs.Leader.{Phase1aAction, Phase2aAction, CommitBy, AbortBy, proposed, Reports}
-use Rattle.matching.specs.Leader.Decided.{DecidedBy, Reads, reads-by}
+use Rattle.matching.specs.Leader.Decided.{DecidedBy, Reflects, reflects-by}
 use Rattle.matching.specs.Leader.Conditions.{in-range}
 use Rattle.matching.specs.Leader.Highest.{highest-first, highest-none, proposal-value}
 use Rattle.matching.specs.Leader.Guards as Guards
@@ -133,26 +133,26 @@ module _ {p : Plan} {isDecided : ℕ → ℕ → Bool} {inbox network e : List �
       let (acts, same) = Guards.phase2a-acts p (messages p inbox) (highOf e) (lowOf e) _ range (new .0) (not-false _ (quorum .0)) _ j in
       ((acts, same, sends, stores), s)
 
-  -- kinds 7 and 8, by what the test reads as decided
-  pub commit-acts : (Decided : ℕ → Source.Val → Type 0) → (allInRange p (messages p inbox) ≡ true → Reads isDecided Decided)
+  -- kinds 7 and 8, by what the test reflects as decided
+  pub commit-acts : (Decided : ℕ → Source.Val → Type 0) → (allInRange p (messages p inbox) ≡ true → Reflects isDecided Decided)
       → kindOf e ≡ 7 → Acts (CommitBy p Decided) (Decision 1) × Still
   unfolding leaderKind decideSend isInRange isValue
-  commit-acts Decided reads kind =
+  commit-acts Decided reflects kind =
       let got : decideSend (viewTable p network) (forAll (p .rms) (λ i. isDecided i 1)) 1 ≡ accepted (t .change)
       = rw kind at (t .verdict) in
       let all = refuseIf-accepted _ _ _ _ got in
       let ((j, sends), kept, s) = only-acts p inbox network e rmState aState t (Decision 1) refl (all .1) in
-      ((Guards.commit-acts p isDecided Decided (reads (inbox-range p inbox network e rmState aState t)) _ (not-false _ (all .0)) _ j, sends, kept), s)
+      ((Guards.commit-acts p isDecided Decided (reflects (inbox-range p inbox network e rmState aState t)) _ (not-false _ (all .0)) _ j, sends, kept), s)
 
-  pub abort-acts : (Decided : ℕ → Source.Val → Type 0) → (allInRange p (messages p inbox) ≡ true → Reads isDecided Decided)
+  pub abort-acts : (Decided : ℕ → Source.Val → Type 0) → (allInRange p (messages p inbox) ≡ true → Reflects isDecided Decided)
       → kindOf e ≡ 8 → Acts (AbortBy p Decided) (Decision 2) × Still
   unfolding leaderKind decideSend isInRange isValue
-  abort-acts Decided reads kind =
+  abort-acts Decided reflects kind =
       let got : decideSend (viewTable p network) (forSome (p .rms) (λ i. isDecided i 2)) 2 ≡ accepted (t .change)
       = rw kind at (t .verdict) in
       let some = refuseIf-accepted _ _ _ _ got in
       let ((j, sends), kept, s) = only-acts p inbox network e rmState aState t (Decision 2) refl (some .1) in
-      ((Guards.abort-acts p isDecided Decided (reads (inbox-range p inbox network e rmState aState t)) _ (not-false _ (some .0)) _ j, sends, kept), s)
+      ((Guards.abort-acts p isDecided Decided (reflects (inbox-range p inbox network e rmState aState t)) _ (not-false _ (some .0)) _ j, sends, kept), s)
 
   -- an accepted step by its kind
   still-sound : Still
@@ -162,13 +162,13 @@ module _ {p : Plan} {isDecided : ℕ → ℕ → Bool} {inbox network e : List �
       go true c d f h4 h5 h6 h7 = receipt-some (eqb-true _ _ h4) .3
       go false true d f h4 h5 h6 h7 = phase1a-acts (eqb-true _ _ h5) .1
       go false false true f h4 h5 h6 h7 = phase2a-acts (eqb-true _ _ h6) .1
-      go false false false true h4 h5 h6 h7 = commit-acts (DecidedBy isDecided) (λ _. reads-by isDecided) (eqb-true _ _ h7) .1
+      go false false false true h4 h5 h6 h7 = commit-acts (DecidedBy isDecided) (λ _. reflects-by isDecided) (eqb-true _ _ h7) .1
       go false false false false h4 h5 h6 h7 =
           let n4 : kindOf e ≡ 4 → ⊥ = eqb-false _ _ h4 in
           let n5 : kindOf e ≡ 5 → ⊥ = eqb-false _ _ h5 in
           let n6 : kindOf e ≡ 6 → ⊥ = eqb-false _ _ h6 in
           let n7 : kindOf e ≡ 7 → ⊥ = eqb-false _ _ h7 in
-          abort-acts (DecidedBy isDecided) (λ _. reads-by isDecided) (omega (arith, t .least, event-parts p e (t .event) .kind)) .1
+          abort-acts (DecidedBy isDecided) (λ _. reflects-by isDecided) (omega (arith, t .least, event-parts p e (t .event) .kind)) .1
 
 module _ (p : Plan) (isDecided : ℕ → ℕ → Bool) (inbox network e : List ℕ) where
   pub keeps : (k : ℕ) → leaderStepBy p isDecided inbox network e .answer ≡ refused k

@@ -1,4 +1,5 @@
 -- The step of a leader answers by its rows.
+--     leader-judges-then    the rows of the plan and the tables, and those below
 --     leader-ruled          the rows, along the definition of the step
 -- Assumes nothing.
 use Prim.Native.Nat.{ℕ, _≤_, _<_}
@@ -34,8 +35,8 @@ use Rattle.matching.specs.Reading.{messageOf, setOf}
 use Rattle.matching.specs.Call.{Enabled, HasRoom, SlotUnused, SlotHolds}
 use Rattle.matching.specs.Call.Laws.{clash, ruled-judged, ruled-judged₂, ruled-sound}
 use Rattle.matching.specs.Call.Laws.{ruled-slot, ruled-sending, ruled-applied}
-use Rattle.matching.specs.Leader.{Phase2aAction, stateOf, isReceived, proposed, NotOwned, DisabledBy, Full, InboxFull, leaderRowsBy}
-use Rattle.matching.specs.Leader.Decided.{Reads}
+use Rattle.matching.specs.Leader.{Phase2aAction, stateOf, isReceived, proposed, NotOwned, DisabledBy, Full, InboxFull, leaderTableRows, leaderRowsBy}
+use Rattle.matching.specs.Leader.Decided.{Reflects}
 use Rattle.matching.specs.Leader.Guards.{joining, joins-joining, phase2a-new, phase2a-quorum, phase2a-acts}
 use Rattle.matching.specs.Leader.Guards.{commit-acts, commit-test, abort-acts, abort-test}
 
@@ -117,8 +118,26 @@ not-owned-kind : (p : Plan) (e : List ℕ) → NotOwned p e → (kindOf e ≡ 5 
 not-owned-kind p e (inl h, o) n m = n h
 not-owned-kind p e (inr h, o) n m = m h
 
+-- the plan and the two tables, and what is judged after them
+pub leader-judges-then : {A : Type 0} (p : Plan) (inbox network : List ℕ) (after : Unit {0} → Outcome A) (rows : Rows)
+    → (isPlan p ≡ true → isTableLength (length inbox) ≡ true → isTable p inbox ≡ true → Ruled (after tt) rows)
+    → Ruled (andThen (leaderJudged p inbox network) after) (leaderTableRows p inbox network rows)
+unfolding leaderJudged
+leader-judges-then p inbox network after rows next =
+    ruled-judged after _ 1 _ _ _ (not-true (isPlan p)) (clash (isPlan p))
+    (λ plan. ruled-judged₂ after _ _ 2 _ _ _ (λ h. inl (not-true _ h)) (λ h. inr (not-true _ h)) lengths
+    (λ whole net-whole. ruled-judged after _ 5 _ _ _ (not-true (isTable p network)) (clash (isTable p network))
+    (λ net-ordered. ruled-judged after _ 6 _ _ _ (not-true (isTable p inbox)) (clash (isTable p inbox))
+    (λ ordered. ruled-sound after tt _
+    (next (not-false (isPlan p) plan) (not-false (isTableLength (length inbox)) whole) (not-false (isTable p inbox) ordered))))))
+  where
+    lengths : not (isTableLength (length inbox)) ≡ false → not (isTableLength (length network)) ≡ false
+        → (isTableLength (length inbox) ≡ false) ⊎ (isTableLength (length network) ≡ false) → ⊥
+    lengths h k (inl n) = clash _ h n
+    lengths h k (inr n) = clash _ k n
+
 module _ (p : Plan) (isDecided : ℕ → ℕ → Bool) (Decided : ℕ → Val → Type 0) (inbox network e : List ℕ)
-    (reads : allInRange p (messages p inbox) ≡ true → Reads isDecided Decided) (rmState : ℕ → ℕ) (aState : ℕ → ℕ → AState) where
+    (reflects : allInRange p (messages p inbox) ≡ true → Reflects isDecided Decided) (rmState : ℕ → ℕ) (aState : ℕ → ℕ → AState) where
   abbrev before : State
   before = stateOf p network rmState aState
 
@@ -227,16 +246,16 @@ module _ (p : Plan) (isDecided : ℕ → ℕ → Bool) (Decided : ℕ → Val �
     unfolding decideSend
     commit-ruled kind =
         ruled-guard _ 12 _ _ _
-        (λ h. below (here (kind, λ a. false≢true (sym (not-true _ h) ∙ commit-test p isDecided Decided (reads r) before a))))
-        (λ h k. byKind12 _ _ _ _ k .at7 kind (joining p _ before, commit-acts p isDecided Decided (reads r) before (not-false _ h) _ (joins-joining p _ before)))
+        (λ h. below (here (kind, λ a. false≢true (sym (not-true _ h) ∙ commit-test p isDecided Decided (reflects r) before a))))
+        (λ h k. byKind12 _ _ _ _ k .at7 kind (joining p _ before, commit-acts p isDecided Decided (reflects r) before (not-false _ h) _ (joins-joining p _ before)))
         (λ h. only-ruled _ (λ n. inr (inr (inl (kind, n)))) (λ k. byKind13 _ _ _ _ _ k .at7 kind) (λ q. omega arith) (λ q. omega arith))
 
     abort-ruled : kindOf e ≡ 8 → Ruled (decideSend (viewTable p network) (forSome (p .rms) (λ i. isDecided i 2)) 2) Rows12
     unfolding decideSend
     abort-ruled kind =
         ruled-guard _ 12 _ _ _
-        (λ h. below (below (kind, λ a. false≢true (sym (not-true _ h) ∙ abort-test p isDecided Decided (reads r) before a))))
-        (λ h k. byKind12 _ _ _ _ k .at8 kind (joining p _ before, abort-acts p isDecided Decided (reads r) before (not-false _ h) _ (joins-joining p _ before)))
+        (λ h. below (below (kind, λ a. false≢true (sym (not-true _ h) ∙ abort-test p isDecided Decided (reflects r) before a))))
+        (λ h k. byKind12 _ _ _ _ k .at8 kind (joining p _ before, abort-acts p isDecided Decided (reflects r) before (not-false _ h) _ (joins-joining p _ before)))
         (λ h. only-ruled _ (λ n. inr (inr (inr (kind, n)))) (λ k. byKind13 _ _ _ _ _ k .at8 kind) (λ q. omega arith) (λ q. omega arith))
 
     kind-ruled : 4 ≤ kindOf e → kindOf e ≤ 8
@@ -288,21 +307,7 @@ module _ (p : Plan) (isDecided : ℕ → ℕ → Bool) (Decided : ℕ → Val �
   abbrev verdict : Unit {0} → Outcome Change
   verdict _ = leaderVerdictBy p isDecided (viewTable p inbox) (viewTable p network) e
 
-  judged-ruled : Ruled (andThen (leaderJudged p inbox network) verdict) (leaderRowsBy p Decided inbox network e before)
-  unfolding leaderJudged
-  judged-ruled =
-      ruled-judged verdict _ 1 _ _ _ (not-true (isPlan p)) (clash (isPlan p))
-      (λ plan. ruled-judged₂ verdict _ _ 2 _ _ _ (λ h. inl (not-true _ h)) (λ h. inr (not-true _ h)) lengths
-      (λ whole net-whole. ruled-judged verdict _ 5 _ _ _ (not-true (isTable p network)) (clash (isTable p network))
-      (λ net-ordered. ruled-judged verdict _ 6 _ _ _ (not-true (isTable p inbox)) (clash (isTable p inbox))
-      (λ ordered. ruled-sound verdict tt _
-      (verdict-ruled (holds-judged p inbox (not-false _ whole) (not-false _ ordered) .inRange) (not-false (isPlan p) plan))))))
-    where
-      lengths : not (isTableLength (length inbox)) ≡ false → not (isTableLength (length network)) ≡ false
-          → (isTableLength (length inbox) ≡ false) ⊎ (isTableLength (length network) ≡ false) → ⊥
-      lengths h k (inl n) = clash _ h n
-      lengths h k (inr n) = clash _ k n
-
   pub leader-ruled : Ruled (leaderStepBy p isDecided inbox network e .answer) (leaderRowsBy p Decided inbox network e before)
   unfolding leaderStepBy
-  leader-ruled = ruled-applied p inbox network (leaderRowsBy p Decided inbox network e before) (andThen (leaderJudged p inbox network) verdict) judged-ruled
+  leader-ruled = ruled-applied p inbox network (leaderRowsBy p Decided inbox network e before) (andThen (leaderJudged p inbox network) verdict)
+      (leader-judges-then p inbox network verdict _ (λ plan whole ordered. verdict-ruled (holds-judged p inbox whole ordered .inRange) plan))

@@ -1,5 +1,6 @@
 -- The step of a resource manager answers by its rows.
 --     Choose                RMPrepare and RMChooseToAbort alike
+--     rm-judges-then        the rows of the plan and the tables, and those below
 --     rm-ruled              the rows, along the definition of the step
 -- Assumes nothing.
 use Prim.Native.Nat.{ℕ, _≤_, _<_}
@@ -32,7 +33,7 @@ use Rattle.rm.specs.Rm.{areStates, rmJudged, rmChoose, rmDecided, rmReceiveDeci
 use Rattle.matching.specs.Reading.{isRM, isAcceptor, isMajoritySet, valOf, rmStateOf}
 use Rattle.matching.specs.Call.{Enabled, HasRoom, SlotUnused, SlotHolds}
 use Rattle.matching.specs.Call.Laws.{Joined, clash, ruled-judged, ruled-judged₂, ruled-sound, ruled-slot, ruled-sending, ruled-applied}
-use Rattle.matching.specs.Rm.{RMPrepare, RMChooseToAbort, stateOf, isDecision, Contradicts, Disabled, Full, rmRows}
+use Rattle.matching.specs.Rm.{RMPrepare, RMChooseToAbort, stateOf, isDecision, Contradicts, Disabled, Full, rmTableRows, rmRows}
 
 -- RMPrepare and RMChooseToAbort alike: a working resource manager takes the state `next` and sends 2a with val
 abbrev pub Choose : Plan → ℕ → ℕ → Val → State → State → Type 0
@@ -41,6 +42,22 @@ Choose p rm next val s s′ =
     × (s′ .rmState ≡ except (s .rmState) rm next)
     × Source.Send (isRM p) (isAcceptor p) (isMajoritySet p) (phase2a rm 0 val) s s′
     × (s′ .aState ≡ s .aState)
+
+-- the plan and the two tables, and what is judged after them
+pub rm-judges-then : {A : Type 0} (p : Plan) (states network : List ℕ) (after : Unit {0} → Outcome A) (rows : Rows)
+    → (isPlan p ≡ true → Ruled (after tt) rows) → Ruled (andThen (rmJudged p states network) after) (rmTableRows p states network rows)
+unfolding rmJudged
+rm-judges-then p states network after rows next =
+    ruled-judged after _ 1 _ _ _ (not-true (isPlan p)) (clash (isPlan p))
+    (λ plan. ruled-judged₂ after _ _ 2 _ _ _ (λ h. inl (eqb-false _ _ (not-true _ h))) (λ h. inr (not-true _ h)) lengths
+    (λ one whole. ruled-judged after _ 3 _ _ _ (not-true (areStates states)) (clash (areStates states))
+    (λ known. ruled-judged after _ 5 _ _ _ (not-true (isTable p network)) (clash (isTable p network))
+    (λ ordered. ruled-sound after tt _ (next (not-false (isPlan p) plan))))))
+  where
+    lengths : not (eqb (length states) (p .rms)) ≡ false → not (isTableLength (length network)) ≡ false
+        → (length states ≡ p .rms → ⊥) ⊎ (isTableLength (length network) ≡ false) → ⊥
+    lengths h k (inl n) = n (eqb-true _ _ (not-false _ h))
+    lengths h k (inr n) = clash _ k n
 
 module _ (p : Plan) (states network e : List ℕ) (aState : ℕ → ℕ → AState) where
   abbrev before : State
@@ -206,20 +223,7 @@ module _ (p : Plan) (states network e : List ℕ) (aState : ℕ → ℕ → ASta
   abbrev verdict : Unit {0} → Outcome Change
   verdict _ = rmVerdict p states (viewTable p network) e
 
-  judged-ruled : Ruled (andThen (rmJudged p states network) verdict) (rmRows p states network e before)
-  unfolding rmJudged
-  judged-ruled =
-      ruled-judged verdict _ 1 _ _ _ (not-true (isPlan p)) (clash (isPlan p))
-      (λ plan. ruled-judged₂ verdict _ _ 2 _ _ _ (λ h. inl (eqb-false _ _ (not-true _ h))) (λ h. inr (not-true _ h)) lengths
-      (λ one whole. ruled-judged verdict _ 3 _ _ _ (not-true (areStates states)) (clash (areStates states))
-      (λ known. ruled-judged verdict _ 5 _ _ _ (not-true (isTable p network)) (clash (isTable p network))
-      (λ ordered. ruled-sound verdict tt _ (verdict-ruled (not-false (isPlan p) plan))))))
-    where
-      lengths : not (eqb (length states) (p .rms)) ≡ false → not (isTableLength (length network)) ≡ false
-          → (length states ≡ p .rms → ⊥) ⊎ (isTableLength (length network) ≡ false) → ⊥
-      lengths h k (inl n) = n (eqb-true _ _ (not-false _ h))
-      lengths h k (inr n) = clash _ k n
-
   pub rm-ruled : Ruled (rmStep p states network e .answer) (rmRows p states network e before)
   unfolding rmStep
-  rm-ruled = ruled-applied p states network (rmRows p states network e before) (andThen (rmJudged p states network) verdict) judged-ruled
+  rm-ruled = ruled-applied p states network (rmRows p states network e before) (andThen (rmJudged p states network) verdict)
+      (rm-judges-then p states network verdict _ verdict-ruled)
