@@ -1,4 +1,5 @@
-//! The record: the four tables together, opening them, the event call of all nine kinds, and how the order stands.
+//! The record: the four tables together, opening them, the event call of all nine kinds, how the order stands, and with the
+//! feature `batch` the list call.
 
 use crate::answer::refused;
 use crate::plan::slots_len;
