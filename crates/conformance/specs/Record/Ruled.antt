@@ -112,6 +112,22 @@ module _ (p : Plan) (t : Tables) (e : List ℕ) where
       (row 14 (Leader.InboxFull p (ownInbox p t e) (t .network) e)
       end))))))
 
+  -- a leader's rows 12, 13 and 14 are of its kinds
+  leader-disabled : Leader.Disabled p (ownInbox p t e) e (recordState p t) → 3 < kindOf e
+  leader-disabled (here h) = omega (arith, h .0)
+  leader-disabled (below (here h)) = omega (arith, h .0)
+  leader-disabled (below (below h)) = omega (arith, h .0)
+
+  leader-full : Leader.Full p (ownInbox p t e) (t .network) e → 3 < kindOf e
+  leader-full (inl h) = omega (arith, h .0)
+  leader-full (inr (inl h)) = omega (arith, h .0)
+  leader-full (inr (inr (inl h))) = omega (arith, h .0)
+  leader-full (inr (inr (inr h))) = omega (arith, h .0)
+
+  leader-inbox-full : Leader.InboxFull p (ownInbox p t e) (t .network) e → 3 < kindOf e
+  leader-inbox-full (inl h) = omega (arith, h .0)
+  leader-inbox-full (inr h) = omega (arith, h .0)
+
   -- each role's answer
   abbrev by-rm : Outcome Sent
   by-rm = rmPart p t e .answer
@@ -131,7 +147,7 @@ module _ (p : Plan) (t : Tables) (e : List ℕ) where
         (swap by-rm 11 _ _ _ _ (λ h. h) (λ h. h)
         (swap-guard by-rm 12 _ _ _ _ here enabled
         (swap by-rm 13 _ _ _ _ inl room
-        (skip by-rm 14 _ _ _ inbox-room (λ r. r)))))))
+        (skip by-rm 14 _ _ _ (λ h. omega (arith, leader-inbox-full h)) (λ r. r)))))))
         (tail by-rm 7 _ _ (λ h. ⊎-elim (no-false event) (λ k. omega arith) h)
         (tail by-rm 5 _ _ (no-false (s .network-ordered))
         (tail by-rm 3 _ _ (no-false (s .known-states))
@@ -146,21 +162,12 @@ module _ (p : Plan) (t : Tables) (e : List ℕ) where
         enabled : Disabled p t e → Rm.Disabled p e (recordState p t)
         enabled (here h) = h
         enabled (below (here h)) = absurd (omega (arith, h .0))
-        enabled (below (below (here h))) = absurd (omega (arith, h .0))
-        enabled (below (below (below (here h)))) = absurd (omega (arith, h .0))
-        enabled (below (below (below (below h)))) = absurd (omega (arith, h .0))
+        enabled (below (below h)) = absurd (omega (arith, leader-disabled h))
 
         room : Full p t e → Rm.Full p (t .network) e
         room (inl h) = h
         room (inr (inl h)) = absurd (omega (arith, h .0))
-        room (inr (inr (inl h))) = absurd (omega (arith, h .0))
-        room (inr (inr (inr (inl h)))) = absurd (omega (arith, h .0))
-        room (inr (inr (inr (inr (inl h))))) = absurd (omega (arith, h .0))
-        room (inr (inr (inr (inr (inr h))))) = absurd (omega (arith, h .0))
-
-        inbox-room : Leader.InboxFull p (ownInbox p t e) (t .network) e → ⊥
-        inbox-room (inl h) = omega (arith, h .0)
-        inbox-room (inr h) = omega (arith, h .0)
+        room (inr (inr h)) = absurd (omega (arith, leader-full h))
 
     acceptor-rest : kindOf e ≡ 3 → Ruled by-acceptor Rest
     acceptor-rest kind =
@@ -170,7 +177,7 @@ module _ (p : Plan) (t : Tables) (e : List ℕ) where
         (skip by-acceptor 11 _ _ _ (λ h. omega (arith, h .0))
         (swap-guard by-acceptor 12 _ _ _ _ (λ h. below (here (kind, h))) enabled
         (swap by-acceptor 13 _ _ _ _ (λ h. inr (inl (kind, h))) room
-        (skip by-acceptor 14 _ _ _ inbox-room (λ r. r)))))))
+        (skip by-acceptor 14 _ _ _ (λ h. omega (arith, leader-inbox-full h)) (λ r. r)))))))
         (tail by-acceptor 7 _ _ (λ h. ⊎-elim (no-false event) (λ n. n kind) h)
         (tail by-acceptor 5 _ _ (no-false (s .network-ordered))
         (tail by-acceptor 4 _ _ (no-false (s .known-votes))
@@ -186,22 +193,13 @@ module _ (p : Plan) (t : Tables) (e : List ℕ) where
         enabled (here (here h)) = absurd (omega (arith, h .0))
         enabled (here (below h)) = absurd (omega (arith, h .0))
         enabled (below (here h)) = h .1
-        enabled (below (below (here h))) = absurd (omega (arith, h .0))
-        enabled (below (below (below (here h)))) = absurd (omega (arith, h .0))
-        enabled (below (below (below (below h)))) = absurd (omega (arith, h .0))
+        enabled (below (below h)) = absurd (omega (arith, leader-disabled h))
 
         room : Full p t e → Acceptor.Full p (t .votes) (t .network) e
         room (inl (inl h)) = absurd (omega (arith, h .0))
         room (inl (inr h)) = absurd (omega (arith, h .0))
         room (inr (inl h)) = h .1
-        room (inr (inr (inl h))) = absurd (omega (arith, h .0))
-        room (inr (inr (inr (inl h)))) = absurd (omega (arith, h .0))
-        room (inr (inr (inr (inr (inl h))))) = absurd (omega (arith, h .0))
-        room (inr (inr (inr (inr (inr h))))) = absurd (omega (arith, h .0))
-
-        inbox-room : Leader.InboxFull p (ownInbox p t e) (t .network) e → ⊥
-        inbox-room (inl h) = omega (arith, h .0)
-        inbox-room (inr h) = omega (arith, h .0)
+        room (inr (inr h)) = absurd (omega (arith, leader-full h))
 
     leader-rest : 3 < kindOf e → Ruled by-leader Rest
     leader-rest large =

@@ -49,7 +49,7 @@ use Rattle.matching.specs.Leader.Decided.{DecidedBy, Reflects, reflects-
 use Rattle.matching.specs.Leader.Conditions.{in-range}
 use Rattle.matching.specs.Leader.Highest.{highest-first, highest-none, proposal-value}
 use Rattle.matching.specs.Leader.Guards as Guards
-use Rattle.matching.specs.Leader.Took.{Took, took, receipt-stores, before, next, SoundAfter}
+use Rattle.matching.specs.Leader.Took.{Took, took, receipt-stores, before, next, SoundAfter, Sending}
 use Rattle.matching.specs.Leader.Took.{inbox-range, only-acts, both-acts, store-acts}
 
 module _ {p : Plan} {isDecided : ℕ → ℕ → Bool} {inbox network e : List ℕ} (rmState : ℕ → ℕ) (aState : ℕ → ℕ → AState)
@@ -133,26 +133,28 @@ module _ {p : Plan} {isDecided : ℕ → ℕ → Bool} {inbox network e : List �
       let (acts, same) = Guards.phase2a-acts p (messages p inbox) (highOf e) (lowOf e) _ range (new .0) (not-false _ (quorum .0)) _ j in
       ((acts, same, sends, stores), s)
 
-  -- kinds 7 and 8, by what the test reflects as decided
+  -- kinds 7 and 8: a test passed, and its decision was sent
+  decided-acts : (test : Bool) (v : ℕ) → isInRange p (Decision v) ≡ true → decideSend (viewTable p network) test v ≡ accepted (t .change)
+      → (test ≡ true) × (Sending p inbox network e rmState aState (Decision v) after × (after .table ≡ inbox) × Still)
+  unfolding decideSend
+  decided-acts test v range got =
+      let sent = refuseIf-accepted _ _ _ _ got in
+      (not-false _ (sent .0), only-acts p inbox network e rmState aState t (Decision v) range (sent .1))
+
+  -- by what the test reflects
   pub commit-acts : (Decided : ℕ → Source.Val → Type 0) → (allInRange p (messages p inbox) ≡ true → Reflects isDecided Decided)
       → kindOf e ≡ 7 → Acts (CommitBy p Decided) (Decision 1) × Still
-  unfolding leaderKind decideSend isInRange isValue
+  unfolding leaderKind isInRange isValue
   commit-acts Decided reflects kind =
-      let got : decideSend (viewTable p network) (forAll (p .rms) (λ i. isDecided i 1)) 1 ≡ accepted (t .change)
-      = rw kind at (t .verdict) in
-      let all = refuseIf-accepted _ _ _ _ got in
-      let ((j, sends), kept, s) = only-acts p inbox network e rmState aState t (Decision 1) refl (all .1) in
-      ((Guards.commit-acts p isDecided Decided (reflects (inbox-range p inbox network e rmState aState t)) _ (not-false _ (all .0)) _ j, sends, kept), s)
+      let (all, ((j, sends), kept, s)) = decided-acts (forAll (p .rms) (λ i. isDecided i 1)) 1 refl (rw kind at (t .verdict)) in
+      ((Guards.commit-acts p isDecided Decided (reflects (inbox-range p inbox network e rmState aState t)) _ all _ j, sends, kept), s)
 
   pub abort-acts : (Decided : ℕ → Source.Val → Type 0) → (allInRange p (messages p inbox) ≡ true → Reflects isDecided Decided)
       → kindOf e ≡ 8 → Acts (AbortBy p Decided) (Decision 2) × Still
-  unfolding leaderKind decideSend isInRange isValue
+  unfolding leaderKind isInRange isValue
   abort-acts Decided reflects kind =
-      let got : decideSend (viewTable p network) (forSome (p .rms) (λ i. isDecided i 2)) 2 ≡ accepted (t .change)
-      = rw kind at (t .verdict) in
-      let some = refuseIf-accepted _ _ _ _ got in
-      let ((j, sends), kept, s) = only-acts p inbox network e rmState aState t (Decision 2) refl (some .1) in
-      ((Guards.abort-acts p isDecided Decided (reflects (inbox-range p inbox network e rmState aState t)) _ (not-false _ (some .0)) _ j, sends, kept), s)
+      let (some, ((j, sends), kept, s)) = decided-acts (forSome (p .rms) (λ i. isDecided i 2)) 2 refl (rw kind at (t .verdict)) in
+      ((Guards.abort-acts p isDecided Decided (reflects (inbox-range p inbox network e rmState aState t)) _ some _ j, sends, kept), s)
 
   -- an accepted step by its kind
   still-sound : Still
