@@ -9,6 +9,7 @@
 --         lists-end, mixed-ends     the same of lists, and of those that are refused whole
 --         places                where each call puts its bytes in the four tables
 --         order-examples        an old map, a bad field of another order, other orders by either byte, and a Commit of this order and of another
+--         owners                who owns which ballots, with two, three and four leaders
 --         refusals              each number of the event call
 -- Assumes nothing.
 use Prim.Native.Nat.{ℕ}
@@ -134,7 +135,8 @@ pub record Computed : Type 0 where
       tablesAfter (record { rms = 3; acceptors = 3; leaders = 2; order = 0x0102 })
       (tablesOf (replicate 3 0) (replicate 27 0) (replicate 32 0) (replicate 32 0)) spread
       ≡ tablesOf (0 ∷ 0 ∷ 1 ∷ []) (replicate 21 0 ++ (2 ∷ replicate 5 0))
-      ((0x29 ∷ 2 ∷ 2 ∷ 1 ∷ 2 ∷ 0 ∷ 0 ∷ 0 ∷ []) ++ ((0x27 ∷ 2 ∷ 1 ∷ 2 ∷ 1 ∷ 2 ∷ 0 ∷ 0 ∷ []) ++ ((0x39 ∷ 2 ∷ 0 ∷ 1 ∷ 1 ∷ 2 ∷ 0 ∷ 0 ∷ []) ++ replicate 8 0)))
+      ((0x29 ∷ 2 ∷ 2 ∷ 1 ∷ 2 ∷ 0 ∷ 0 ∷ 0 ∷ [])
+      ++ ((0x27 ∷ 2 ∷ 1 ∷ 2 ∷ 1 ∷ 2 ∷ 0 ∷ 0 ∷ []) ++ ((0x39 ∷ 2 ∷ 0 ∷ 1 ∷ 1 ∷ 2 ∷ 0 ∷ 0 ∷ []) ++ replicate 8 0)))
       (replicate 16 0 ++ ((0x27 ∷ 2 ∷ 1 ∷ 2 ∷ 1 ∷ 2 ∷ 0 ∷ 0 ∷ []) ++ replicate 8 0))
   -- the order number is 0102 (document 02, Paper 1)
   pub order-examples : map (readMessage order)
@@ -146,6 +148,14 @@ pub record Computed : Type 0 where
       ∷ (0x30 ∷ 1 ∷ 2 ∷ 1 ∷ [])
       ∷ [])
       ≡ refused 15 ∷ refused 17 ∷ refused 18 ∷ refused 18 ∷ accepted (Decision 1) ∷ refused 18 ∷ []
+  -- who owns which ballots (document 02, Paper 4)
+  pub owners :
+      (map (atBallot 2 5 0) (1 ∷ 2 ∷ 3 ∷ 255 ∷ []) ≡ accepted (Slot 0) ∷ refused 10 ∷ accepted (Slot 0) ∷ accepted (Slot 0) ∷ [])
+      × (map (atBallot 3 5 2) (2 ∷ 3 ∷ 6 ∷ 254 ∷ 255 ∷ []) ≡ refused 10 ∷ accepted (Slot 0) ∷ accepted (Slot 0) ∷ refused 10 ∷ accepted (Slot 0) ∷ [])
+      × (map (atBallot 4 5 0) (0 ∷ 1 ∷ 2 ∷ 5 ∷ 253 ∷ []) ≡ refused 10 ∷ accepted (Slot 0) ∷ refused 10 ∷ accepted (Slot 0) ∷ accepted (Slot 0) ∷ [])
+      × (map (atBallot 4 5 1) (0 ∷ 1 ∷ 2 ∷ 5 ∷ 254 ∷ []) ≡ refused 10 ∷ refused 10 ∷ accepted (Slot 0) ∷ refused 10 ∷ accepted (Slot 0) ∷ [])
+      × (map (atBallot 4 5 3) (0 ∷ 1 ∷ 3 ∷ 4 ∷ 255 ∷ []) ≡ refused 10 ∷ refused 10 ∷ refused 10 ∷ accepted (Slot 0) ∷ refused 10 ∷ [])
+      × (map (atBallot 4 6 2) (0 ∷ 2 ∷ 3 ∷ 255 ∷ []) ≡ refused 10 ∷ refused 10 ∷ refused 12 ∷ refused 12 ∷ [])
   -- each row of "Refusals by place" for the event call, in bytes
   pub refusals :
       (recordStep (record { rms = 0; acceptors = 1; leaders = 1; order = 0x0102 }) (tablesOf [] [] [] []) (0 ∷ 0 ∷ 0 ∷ 0 ∷ []) .answer ≡ refused 1)
@@ -165,12 +175,6 @@ pub record Computed : Type 0 where
       × (on (0 ∷ []) (0 ∷ 0 ∷ 0 ∷ []) (0x30 ∷ 1 ∷ 1 ∷ 2 ∷ 0 ∷ 0 ∷ 0 ∷ 0 ∷ []) unused (3 ∷ 0 ∷ 0 ∷ 0 ∷ []) ≡ refused 9)
       × (on (0 ∷ []) (0 ∷ 0 ∷ 0 ∷ []) (0x39 ∷ 0 ∷ 0 ∷ 1 ∷ 1 ∷ 2 ∷ 0 ∷ 0 ∷ []) unused (4 ∷ 0 ∷ 0 ∷ 0 ∷ []) ≡ refused 9)
       × (on (0 ∷ []) (0 ∷ 0 ∷ 0 ∷ []) unused unused (5 ∷ 0 ∷ 0 ∷ 0 ∷ []) ≡ refused 10)
-      × (map (atBallot 2 5 0) (1 ∷ 2 ∷ 3 ∷ 255 ∷ []) ≡ accepted (Slot 0) ∷ refused 10 ∷ accepted (Slot 0) ∷ accepted (Slot 0) ∷ [])
-      × (map (atBallot 3 5 2) (2 ∷ 3 ∷ 6 ∷ 254 ∷ 255 ∷ []) ≡ refused 10 ∷ accepted (Slot 0) ∷ accepted (Slot 0) ∷ refused 10 ∷ accepted (Slot 0) ∷ [])
-      × (map (atBallot 4 5 0) (0 ∷ 1 ∷ 2 ∷ 4 ∷ 5 ∷ 253 ∷ []) ≡ refused 10 ∷ accepted (Slot 0) ∷ refused 10 ∷ refused 10 ∷ accepted (Slot 0) ∷ accepted (Slot 0) ∷ [])
-      × (map (atBallot 4 5 1) (0 ∷ 1 ∷ 2 ∷ 4 ∷ 5 ∷ 254 ∷ []) ≡ refused 10 ∷ refused 10 ∷ accepted (Slot 0) ∷ refused 10 ∷ refused 10 ∷ accepted (Slot 0) ∷ [])
-      × (map (atBallot 4 5 3) (0 ∷ 1 ∷ 3 ∷ 4 ∷ 255 ∷ []) ≡ refused 10 ∷ refused 10 ∷ refused 10 ∷ accepted (Slot 0) ∷ refused 10 ∷ [])
-      × (map (atBallot 4 6 2) (0 ∷ 2 ∷ 3 ∷ 255 ∷ []) ≡ refused 10 ∷ refused 10 ∷ refused 12 ∷ refused 12 ∷ [])
       × (on (0 ∷ []) (0 ∷ 0 ∷ 0 ∷ []) (0x30 ∷ 1 ∷ 1 ∷ 2 ∷ 0 ∷ 0 ∷ 0 ∷ 0 ∷ []) unused (2 ∷ 0 ∷ 0 ∷ 0 ∷ []) ≡ refused 11)
       × (on (3 ∷ []) (0 ∷ 0 ∷ 0 ∷ []) (0x30 ∷ 1 ∷ 1 ∷ 2 ∷ 0 ∷ 0 ∷ 0 ∷ 0 ∷ []) unused (2 ∷ 0 ∷ 0 ∷ 0 ∷ []) ≡ refused 11)
       × (on (2 ∷ []) (0 ∷ 0 ∷ 0 ∷ []) (0x30 ∷ 2 ∷ 1 ∷ 2 ∷ 0 ∷ 0 ∷ 0 ∷ 0 ∷ []) unused (2 ∷ 0 ∷ 0 ∷ 0 ∷ []) ≡ refused 11)
@@ -195,5 +199,6 @@ computed =
       mixed-ends = (refl, refl);
       places = refl;
       order-examples = refl;
-      refusals = (refl, refl, refl, refl, refl, refl, refl, refl, refl, refl, refl, refl, refl, refl, refl, refl, refl, refl, refl, refl, refl, refl, refl, refl, refl, refl, refl, refl, refl);
+      owners = (refl, refl, refl, refl, refl, refl);
+      refusals = (refl, refl, refl, refl, refl, refl, refl, refl, refl, refl, refl, refl, refl, refl, refl, refl, refl, refl, refl, refl, refl, refl, refl);
     }
