@@ -1,19 +1,37 @@
 """The calls of the program crates/calls: how a call and its line are written, and the words in which the cases choose them.
 
-A call in the file stdin is twelve bytes and three parts: which call (0 resource manager, 1 acceptor, 2 leader, 3 reader,
-4 writer), n, A, L, the order number in two bytes, and the lengths of the three parts, two bytes each, the higher first; then the role's table, the network,
-and the event. The reader has its slice in place of the event, and no tables; the writer six bytes, the message's kind (0 1a,
-1 and 2 a 1b without and with a vote, 3 2a, 4 2b, 5 decision) and ins, acc, mbal, bal and val. Its line in the file stdout:
+A call in the file stdin is fourteen bytes and four parts: which call (0 resource manager, 1 acceptor, 2 leader, 3 reader,
+4 writer), n, A, L, the order number in two bytes, and the lengths of the four parts, two bytes each, the higher first; then the role's
+table, the summary, the network, and the event. Only a leader has a summary. The reader has its slice in place of the event, and no tables;
+the writer six bytes, the message's kind (0 1a, 1 and 2 a 1b without and with a vote, 3 2a, 4 2b, 5 decision) and ins, acc, mbal, bal and
+val. Its line in the file stdout:
 
-    0 SLOT TABLE NETWORK        a step: the slot of N where the sent message stands, or - for quiet; each table after it in
-                                hexadecimal in brackets, or = where it kept every byte
-    NUMBER = =                  a refused step
-    KIND FIELD FIELD ..         the reader: the message; a 1b without a vote has - for its vote
-    NUMBER                      the reader's refusal
-    NUMBER BYTES LENGTH         the writer
+    0 SLOT TABLE SUMMARY NETWORK    a step: the slot of N where the sent message stands, or - for quiet; each table after it in
+                                    hexadecimal in brackets, or = where it kept every byte, as a summary of no bytes does
+    NUMBER = = =                    a refused step
+    KIND FIELD FIELD ..             the reader: the message; a 1b without a vote has - for its vote
+    NUMBER                          the reader's refusal
+    NUMBER BYTES LENGTH             the writer
 """
 
-from model import FIELDS, ROLES, SLOT, UNUSED, Message, Plan, decode, plan_bytes, read, role_call, slot_of, write
+from model import (
+    FIELDS,
+    LEADER,
+    ROLES,
+    SLOT,
+    UNUSED,
+    LeaderTables,
+    Message,
+    Plan,
+    decode,
+    is_sound,
+    plan_bytes,
+    read,
+    role_call,
+    slot_of,
+    standing,
+    write,
+)
 
 READER, WRITER = "reader", "writer"
 WRITTEN = [0x29, 0x27, 0x3F, 0x39, 0x3B, 0x30]          # the maps by the number of the writer's message
@@ -35,24 +53,36 @@ def shown(table, old):
     return "=" if table == old else "[%s]" % table.hex()
 
 
-def call(label, role, plan, table, network, event, number=None):
-    """One more call of a step. Where its number is known beforehand, the model has to give it."""
+def true_summary(plan, inbox):
+    """The summary that says what the inbox says; zeros beside an inbox that is none."""
+    plan = Plan(*plan)
+    return standing(plan, inbox) if len(inbox) % SLOT == 0 and is_sound(plan, inbox) else bytes(plan.rms)
+
+
+def call(label, role, plan, table, network, event, number=None, summary=None):
+    """One more call of a step: number, slot, the role's table, the summary, the network. Where its number is known beforehand, the model has
+    to give it. A leader's summary says what its inbox does, unless one is given; the other roles' has no bytes."""
     table, network, event = bytes(table), bytes(network), bytes(event)
-    outcome = role_call(role, Plan(*plan), table, network, event)
-    assert number in (None, outcome[0]), (label, role, plan, table, network, event, outcome, number)
-    line = "%d = =" % outcome[0]
+    if summary is None:
+        summary = true_summary(plan, table) if role == LEADER else b""
+    before = (table, bytes(summary), network)
+    outcome = role_call(role, Plan(*plan), LeaderTables(*before[:2]) if role == LEADER else table, network, event)
+    assert number in (None, outcome[0]), (label, role, plan, before, event, outcome, number)
+    line = "%d = = =" % outcome[0]
     if outcome[0] == 0:
-        slot = "-" if outcome[1] is None else outcome[1]
-        line = "0 %s %s %s" % (slot, shown(outcome[2], table), shown(outcome[3], network))
-    add(role, label, outcome[0], plan, (table, network, event), line)
+        _, slot, tables, network = outcome
+        outcome = (0, slot, *(tables if role == LEADER else (tables, b"")), network)
+        line = " ".join(["0", "-" if slot is None else "%d" % slot] + [shown(*both) for both in zip(outcome[2:], before)])
+    add(role, label, outcome[0], plan, (*before, event), line)
     return outcome
 
 
-def twice(label, role, plan, table, network, event, number=None):
+def twice(label, role, plan, table, network, event, number=None, summary=None):
     """The call, and where it is accepted, the same call again on the tables that it left."""
-    outcome = call(label, role, plan, table, network, event, number)
+    outcome = call(label, role, plan, table, network, event, number, summary)
     if outcome[0] == 0:
-        call(label + ", again", role, plan, outcome[2], outcome[3], event)
+        _, _, table, summary, network = outcome
+        call(label + ", again", role, plan, table, network, event, None, summary)
     return outcome
 
 
@@ -64,7 +94,7 @@ def call_reader(label, plan, part, number=None):
         fields = [getattr(outcome[1], field) for field in FIELDS]
         without = ["-"] if outcome[1].kind == "1b" and outcome[1].val is None else []
         line = " ".join([outcome[1].kind] + ["%d" % x for x in fields if x is not None] + without)
-    add(READER, label, outcome[0], plan, (b"", b"", bytes(part)), line)
+    add(READER, label, outcome[0], plan, (b"", b"", b"", bytes(part)), line)
 
 
 def call_writer(label, plan, map_byte, fields, number=None):
@@ -73,7 +103,7 @@ def call_writer(label, plan, map_byte, fields, number=None):
     outcome = write(Plan(*plan), message)
     assert number in (None, outcome[0]), (label, plan, message, outcome, number)
     raw = bytes([WRITTEN.index(map_byte), *fields])
-    add(WRITER, label, outcome[0], plan, (b"", b"", raw), "%d %s %d" % (outcome[0], outcome[1].hex(), outcome[2]))
+    add(WRITER, label, outcome[0], plan, (b"", b"", b"", raw), "%d %s %d" % (outcome[0], outcome[1].hex(), outcome[2]))
 
 
 # ---- Slots and events ----

@@ -11,16 +11,15 @@ from model import (
     RM,
     RM_ABORTED,
     ROLES,
-    SLOT,
     Plan,
-    Record,
     event_call,
-    inbox_of,
+    leader_tables,
     messages,
     open_record,
     owner,
     role_of,
     set_bytes,
+    zeros,
 )
 
 
@@ -52,14 +51,16 @@ def next_event(rng, plan, record):
 def call_role(label, plan, record, event):
     """The event as its role's own call, which has to answer and store what the event call does: the record after it."""
     role, who = role_of(event[0]), event[1]
-    table = {RM: record.states, ACCEPTOR: record.votes, LEADER: inbox_of(plan, record, who)[1]}[role]
-    outcome = call(label, role, plan, table, record.network, event)
+    def lent(record):
+        """The role's table and its summary."""
+        return {RM: (record.states, b""), ACCEPTOR: (record.votes, b""), LEADER: leader_tables(plan, record, who)}[role]
+    table, summary = lent(record)
+    outcome = call(label, role, plan, table, record.network, event, summary=summary)
     whole = event_call(plan, record, event)
     assert outcome[:2] == whole[:2]
     if outcome[0] != 0:
         return record
-    after = {RM: whole[2].states, ACCEPTOR: whole[2].votes, LEADER: inbox_of(plan, whole[2], who)[1]}[role]
-    assert outcome[2:] == (after, whole[2].network)
+    assert outcome[2:] == (*lent(whole[2]), whole[2].network)
     return whole[2]
 
 
@@ -70,9 +71,7 @@ def histories():
             ((1, 1, 1), 6, 4, 25), ((2, 1, 1), 9, 6, 30), ((1, 3, 2), 14, 8, 50), ((2, 3, 1), 18, 12, 50),
             ((1, 4, 3), 16, 9, 45), ((3, 2, 2), 20, 14, 60), ((1, 3, 4), 18, 8, 50), ((2, 3, 4), 20, 9, 60)):
         plan = Plan(*counts)
-        tables = Record(bytes(plan.rms), bytes(3 * plan.rms * plan.acceptors), slots(network_slots),
-                        bytes(SLOT * inbox_slots * plan.leaders))
-        _, record = open_record(plan, tables)
+        _, record = open_record(plan, zeros(plan, network_slots, inbox_slots))
         for _ in range(length):
             event = next_event(rng, plan, record)
             assert event_call(plan, record, event) != (11,)
@@ -105,8 +104,9 @@ def random_event(rng, plan, role, network):
 
 
 def random_calls():
-    """Random sound tables, also such as no list of calls leads to; now and then one byte is changed."""
-    rng = random.Random(2)
+    """Random sound tables, also such as no list of calls leads to; now and then one byte is changed. Half of the summaries say something else
+    than the inbox."""
+    rng, marks = random.Random(2), random.Random(3)
     for _ in range(300):
         plan = n, a, _ = rng.choice((1, 1, 2, 3)), rng.randint(1, 4), rng.randint(1, 3)
         role = rng.choice((RM, ACCEPTOR, LEADER, LEADER, LEADER))
@@ -119,7 +119,10 @@ def random_calls():
         part = rng.randrange(3)
         if parts[part] and rng.random() < 0.15:
             parts[part] = set_bytes(parts[part], rng.randrange(len(parts[part])), [rng.choice((0, 1, 2, 3, 255))])
-        call("random", role, plan, *parts)
+        summary = None
+        if role == LEADER and marks.random() < 0.5:
+            summary = bytes(marks.choice((0, 1, 2, 3, 3, 4) if marks.random() < 0.05 else range(4)) for _ in range(n))
+        call("random", role, plan, *parts, summary=summary)
 
 
 SECTIONS = [histories, random_calls]

@@ -2,7 +2,7 @@
 events and plans at and past their limits.
 """
 
-from calls import call, decision, m1a, m1b, m2a, m2b, other, proposing, reading, slots, strip, twice
+from calls import call, decision, m1a, m1b, m2a, m2b, other, proposing, reading, slots, strip, true_summary, twice
 from model import (
     ABORT,
     ABORTED,
@@ -30,21 +30,26 @@ def examples():
     call("example 9", ACCEPTOR, one, [2, 0, 0], slots(2, m1a(0, 2)), read, 12)
     call("example 10", ACCEPTOR, one, [2, 0, 0], slots(2, m1a(0, 3)), read, 0)
     inbox = slots(3, bytes.fromhex("3F00000300010102"), bytes.fromhex("3F00010302020102"))
-    _, slot, _, network = call("example 11", LEADER, (1, 3, 1), inbox, slots(1), propose, 0)
+    _, slot, _, _, network = call("example 11", LEADER, (1, 3, 1), inbox, slots(1), propose, 0)
     assert network[SLOT * slot:][:SLOT] == m2a(0, 3, 2)
     two = [m1b(0, 0, 3), m1b(0, 1, 3)]
     call("example 12", LEADER, (1, 4, 1), slots(4, *two), slots(1), propose, 12)
     call("example 12", LEADER, (1, 4, 1), slots(4, *two, m1b(0, 3, 3)), slots(1), propose, 0)
-    inbox = slots(3, m2b(0, 0, 0, PREPARED), m2b(0, 1, 3, PREPARED))
-    call("example 13", LEADER, (1, 3, 1), inbox, slots(1), other(7, 0), 12)
+    # document 02, Paper 5: the leader first receives the two 2b
+    inbox, summary, network = slots(3), bytes(1), slots(3, m2b(0, 0, 0, PREPARED), m2b(0, 1, 3, PREPARED))
+    for slot in (0, 1):
+        _, _, inbox, summary, network = call("example 13", LEADER, (1, 3, 1), inbox, network, reading(4, 0, slot), 0, summary)
+    assert summary == bytes(1)
+    call("example 13", LEADER, (1, 3, 1), inbox, network, other(7, 0), 12, summary)
 
-    tables, network = {RM: bytes(1), ACCEPTOR: bytes(3), LEADER: slots(3)}, slots(4)
+    tables, network, summary = {RM: bytes(1), ACCEPTOR: bytes(3), LEADER: slots(3)}, slots(4), bytes(1)
     for text, number in zip("00000000 03000000 04000001 07000000 02000002 01000000".split(), (0, 0, 0, 0, 0, 12)):
         event = bytes.fromhex(text)
         role = role_of(event[0])
-        outcome = call("rehearsal", role, one, tables[role], network, event, number)
+        outcome = call("rehearsal", role, one, tables[role], network, event, number, summary if role == LEADER else None)
         if number == 0:
-            tables[role], network = outcome[2:]
+            tables[role], network = outcome[2], outcome[4]
+            summary = outcome[3] if role == LEADER else summary
     assert tables[RM] == bytes([COMMITTED])
 
 
@@ -90,6 +95,12 @@ def contents_damages(role):
     if role == ACCEPTOR:
         return [set_at(4, "table", *x) for x in ((0, 0, 0, 3), (3, 9, 1, 0), (24, 9, 9, 255), (25, 255, 0))]
     return slot_damages(6, "table")
+
+
+def summary_damages():
+    """Row 20 of a leader's own call: of another length than n, whatever L is, and bytes above 3."""
+    lengths = [edit(20, "summary", lambda old, count=count: (old + bytes(300))[:count]) for count in (0, 1, 2, 4, 9, 259)]
+    return lengths + [set_at(20, "summary", at, x) for at, x in ((0, 4), (1, 128), (2, 255), (2, 4), (1, 7))]
 
 
 def slot_damages(number, part):
@@ -141,35 +152,40 @@ def bases():
     yield LEADER, inbox, wanted(m1a(1, 2)), proposing(6, 2, 1, 6), unowned + disabled + send + full(14, "table")
     for kind, value, instances in ((7, PREPARED, 3), (8, ABORTED, 1)):
         votes = [m2b(i, a, 1, value) for i in range(instances) for a in (0, 2)]
-        few = (m2b(0, 0, 1, 3 - value), m2b(0, 0, 2, value), m2b(0, 2, 1, value), m1a(0, 1))
-        disabled = [set_at(12, "table", SLOT, *slot) for slot in few]
+        disabled = [set_at(12, "summary", 0, x) for x in (0, 3 - value)]
         yield LEADER, slots(9, m1a(0, 2), *votes), wanted(m1a(1, 2)), other(kind, 1), disabled + send
 
 
+# The numbers in the order in which their rows are asked: 20 comes after 6.
+ROWS = [*range(1, 7), 20, *range(7, 15)]
+
+
 def refusals():
-    """Each damage by itself, and for each two numbers a pair of damages, of which the lowest number is answered."""
+    """Each damage by itself, and for each two numbers a pair of damages, of which the first in the order of the rows is answered."""
     everything, turn = list(bases()), 0
     for role in ROLES:
         own_bases = [base for base in everything if base[0] == role]
         for k, (_, table, network, event, own) in enumerate(own_bases):
             whole = {"plan": (3, 3, 3), "table": table, "network": network, "event": event}
             label = "%s kind %d" % (role, event[0])
-            twice(label, role, *whole.values(), 0)
+            if role == LEADER:
+                whole["summary"] = true_summary((3, 3, 3), table)
+            twice(label, role, number=0, **whole)
             by_number = {}
             lengths = length_damages("table") + length_damages("network")
-            contents = contents_damages(role) + slot_damages(5, "network")
+            contents = contents_damages(role) + slot_damages(5, "network") + (summary_damages() if role == LEADER else [])
             for number, damage in plan_damages() + lengths + contents + event_damages(role, event[0]) + own:
                 by_number.setdefault(number, []).append(damage)
             for number, damages in by_number.items():
                 # the damages that suit every call are dealt out among the calls of the role
                 for damage in damages[k::len(own_bases)] if number <= 7 else damages:
-                    call(label + " damaged", role, *damage(whole).values(), number)
+                    call(label + " damaged", role, number=number, **damage(whole))
             for first in by_number:
                 for second in by_number:
-                    if first < second:
+                    if ROWS.index(first) < ROWS.index(second):
                         a, b = by_number[first], by_number[second]
                         damaged = a[turn % len(a)](b[turn % len(b)](whole))
-                        call(label + " damaged twice", role, *damaged.values(), first)
+                        call(label + " damaged twice", role, number=first, **damaged)
                         turn += 1
 
 

@@ -2,8 +2,8 @@
 leader's ownership, Phase2a and Decide.
 """
 
-from calls import call, decision, m1a, m1b, m2a, m2b, other, proposing, reading, slots, twice
-from model import ABORT, ABORTED, ACCEPTOR, COMMIT, LEADER, PREPARED, RM, SLOT, set_bytes
+from calls import call, decision, m1a, m1b, m2a, m2b, other, proposing, reading, slots, true_summary, twice
+from model import ABORT, ABORTED, ACCEPTOR, COMMIT, LEADER, PREPARED, RM, SLOT, decode, set_bytes
 
 
 def rm_states():
@@ -120,20 +120,34 @@ def proposals():
                            12 if value == 0 else 0 if spare else 14)
             if outcome[0] == 0:
                 sent = m2a(1, 9, value)
-                assert outcome[1:] == (1, slots(len(inbox) + spare, *inbox, sent), network[:SLOT] + sent)
+                assert outcome[1:] == (1, slots(len(inbox) + spare, *inbox, sent), bytes(2), network[:SLOT] + sent)
+
+
+def received(label, plan, who, used):
+    """The messages in an inbox of 12 slots: its 1b and 2b are received one by one from N, beginning with a zero summary; the others stand
+    there before. The inbox and the summary, which says what the inbox does."""
+    here = [m for m in used if decode(m).kind not in ("1b", "2b")]
+    inbox, summary = slots(12, *here), bytes(plan[0])
+    for m in used:
+        if m not in here:
+            _, _, inbox, summary, _ = call(label + ", received", LEADER, plan, inbox, slots(2, m1a(0, 1), m), reading(4, who, 1), 0, summary)
+    assert summary == true_summary(plan, inbox)
+    return inbox, summary
 
 
 def decisions():
-    """Decide: majorities by ballot and by value, for all instances (Commit) and for some instance (Abort)."""
+    """Decide: majorities by ballot and by value, for all instances (Commit) and for some instance (Abort). The votes are received first, so
+    that the summary says what the inbox does."""
     for kind, v in ((7, PREPARED), (8, ABORTED)):
         w, some = 3 - v, 0 if kind == 8 else 12
         for a in range(1, 8):
             for count in range(a + 1):
                 quorum = [m2b(0, (5 + x) % a, 3 * a, v) for x in range(count)]
                 odd = [m2b(0, a - 1, 3 * a, w), m1b(0, a - 1, 3 * a, (3 * a, v)), m2a(0, 3 * a, v)]
-                for inbox in (quorum, quorum + quorum[:1] + odd):
-                    call("%d of %d votes" % (count, a), LEADER, (1, a, 1), slots(len(inbox), *inbox), slots(1),
-                         other(kind, 0), 0 if 2 * count > a else 12)
+                for used in (quorum, quorum + quorum[:1] + odd):
+                    label = "%d of %d votes" % (count, a)
+                    inbox, summary = received(label, (1, a, 1), 0, used)
+                    call(label, LEADER, (1, a, 1), inbox, slots(1), other(kind, 0), 0 if 2 * count > a else 12, summary)
             call("the other value", LEADER, (1, a, 1), slots(a, *quorum), slots(1), other(15 - kind, 0), 12)
 
         # three acceptors: instances, the inbox, and the number
@@ -167,15 +181,19 @@ def decisions():
                 (3, [m2b(i, a, 0, v) for i, a in ((0, 0), (0, 1), (1, 0), (1, 1), (2, 0))], some),
                 (3, [m2b(i, a, i, v) for a in (2, 0) for i in range(3)], 0)]:
             for who in (0, 1):
-                table = slots(len(inbox) + who, *inbox)
-                call("votes", LEADER, (n, 3, 2), table, slots(2, decision(w)), other(kind, who), number)
+                table, summary = received("votes", (n, 3, 2), who, inbox)
+                call("votes", LEADER, (n, 3, 2), table, slots(2, decision(w)), other(kind, who), number, summary)
 
         for a in (1, 7):
             inbox = [m2b(i, (i + x) % a, i, v) for i in range(16) for x in range(a // 2 + 1)]
             call("16 instances", LEADER, (16, a, 4), slots(len(inbox), *inbox), slots(1), other(kind, 3), 0)
             for missing in (0, len(inbox) // 2, len(inbox) - 1):
                 fewer = inbox[:missing] + inbox[missing + 1:]
-                call("a vote missing", LEADER, (16, a, 4), slots(len(fewer), *fewer), slots(1), other(kind, 3), some)
+                table = slots(len(inbox), *fewer)
+                call("a vote missing", LEADER, (16, a, 4), table, slots(1), other(kind, 3), some)
+                network = slots(2, inbox[missing])
+                outcome = call("the vote received", LEADER, (16, a, 4), table, network, reading(4, 3, 0), 0)
+                call("the vote received", LEADER, (16, a, 4), outcome[2], network, other(kind, 3), 0, outcome[3])
 
 
 SECTIONS = [rm_states, acceptor_ballots, ownership, proposals, decisions]

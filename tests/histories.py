@@ -1,9 +1,9 @@
 """The histories of the program crates/histories: how a history and its lines are written, and which are chosen.
 
 A history in the file stdin begins with a byte that says how the record begins (0 zeros and opened, 1 given tables and opened, 2 given
-tables; 4 more where the tables are not shown at the end), then n, A, L, the order number, and the lengths of W, Q, N and I. The order
-number and lengths are two bytes each, the higher first. Then come the four tables, where they are given: each after its length without the
-zeros at its end, which are left out. Last how many calls follow, in two bytes, and the calls:
+tables; 4 more where the tables are not shown at the end), then n, A, L, the order number, and the lengths of W, Q, N, I and the summary. The
+order number and lengths are two bytes each, the higher first. Then come the five tables, where they are given: each after its length without
+the zeros at its end, which are left out. Last how many calls follow, in two bytes, and the calls:
 
     SIZE EVENT                  an event call: a byte with the event's length, at most 254, and the event
     255 ROOM LENGTH EVENTS      a list call: the lengths of the answers and of the events' bytes, and these
@@ -14,9 +14,9 @@ Every byte of the answers is AA before a list call. The lines in the file stdout
     0 SLOT DIGEST               an accepted event: the slot of N where the sent message stands, or - for quiet
     NUMBER DIGEST               a refused one
     run NUMBER [BYTES] DIGEST   a list: 0 or the refusal of the whole call, and the answers after it in hexadecimal
-    [BYTES]                     four lines, W, Q, N and I at the end, in hexadecimal, without the zeros at the end
+    [BYTES]                     five lines, W, Q, N, I and the summary at the end, in hexadecimal, without the zeros at the end
 
-The digest is of the four tables after the call, so it shows a byte that a refused call changed: their bytes one after the
+The digest is of the five tables after the call, so it shows a byte that a refused call changed: their bytes one after the
 other, as a number with the lowest byte first, modulo a prime.
 """
 
@@ -27,17 +27,22 @@ from cases_random import next_event, random_message
 from model import (
     COMMITTED,
     EVENT,
+    LEADER,
     MAPS,
     RM_ABORTED,
     SLOT,
     Plan,
     Record,
     event_call,
+    leader_tables,
     open_record,
     owner,
     plan_bytes,
+    role_of,
     run_call,
     set_bytes,
+    standing,
+    zeros,
 )
 
 PRIME = 4294967291
@@ -76,6 +81,7 @@ class History:
     def event(self, event, number=None):
         """One more event call. Where its number is known beforehand, the model has to give it."""
         outcome = event_call(self.plan, self.record, bytes(event))
+        self.compare(outcome, event_call, bytes(event))
         assert number in (None, outcome[0]), (self.label, self.plan, self.record, event, outcome, number)
         assert len(event) < LIST
         self.calls.append(bytes([len(event)]) + bytes(event))
@@ -88,6 +94,8 @@ class History:
         else:
             self.lines.append("%d %s" % (outcome[0], digest(self.record)))
         self.judge([outcome[0]])
+        if outcome[0] == 0 and role_of(event[0]) == LEADER:
+            self.judge_summary([event[1]])
         return outcome
 
     def run(self, events, number=None, answers=None, room=None):
@@ -95,12 +103,14 @@ class History:
         model has to give them."""
         lent = bytes([ANSWER]) * (len(events) // EVENT if room is None else room)
         outcome = run_call(self.plan, self.record, bytes(events), lent)
+        self.compare(outcome, run_call, bytes(events), lent)
         self.calls.append(bytes([LIST]) + two_bytes(len(lent)) + two_bytes(len(events)) + bytes(events))
         self.lists.append(outcome[0])
         if outcome[0] == 0:
             _, lent, self.record = outcome
             self.listed += lent
             self.judge(lent)
+            self.judge_summary(range(self.plan.leaders))
         assert number in (None, outcome[0]), (self.label, self.plan, self.record, events, outcome, number)
         assert answers in (None, list(lent)), (self.label, self.plan, self.record, events, outcome, answers)
         self.lines.append("run %d [%s] %s" % (outcome[0], lent.hex(), digest(self.record)))
@@ -110,6 +120,19 @@ class History:
         """Document 01, demand 3."""
         if self.opening == 0:
             assert 11 not in numbers and not {COMMITTED, RM_ABORTED} <= set(self.record.states)
+
+    def compare(self, outcome, call, *arguments):
+        """Document 02, Paper 5: from an opened record answers and four tables are those without a summary."""
+        if self.opening == 0:
+            without = call(self.plan, self.record._replace(summary=None), *arguments)
+            assert without[:2] == outcome[:2], (self.label, self.record, arguments, without, outcome)
+            assert outcome[0] != 0 or without[2] == outcome[2]._replace(summary=None), (self.label, self.record, arguments)
+
+    def judge_summary(self, leaders):
+        """The same: each byte of these leaders says what its inbox does."""
+        for leader in leaders if self.opening == 0 else ():
+            inbox, summary = leader_tables(self.plan, self.record, leader)
+            assert summary == standing(self.plan, inbox), (self.label, self.record, leader)
 
     def text(self):
         head = bytes([self.mode + (0 if self.shown else NOT_SHOWN)]) + plan_bytes(self.plan)
@@ -121,11 +144,6 @@ class History:
     def output(self):
         tables = ["[%s]" % table.rstrip(b"\0").hex() for table in self.record] if self.shown else []
         return "".join(line + "\n" for line in self.lines + tables)
-
-
-def zeros(plan, network_slots, inbox_slots):
-    n, a, l = plan[:3]
-    return Record(bytes(n), bytes(3 * n * a), bytes(SLOT * network_slots), bytes(SLOT * inbox_slots * l))
 
 
 # ---- Histories from an opened record ----
@@ -244,23 +262,27 @@ def openings():
     """Whatever the tables hold is zeroed; a refused opening keeps every byte."""
     rng = random.Random(15)
     plan = n, a, l = 2, 3, 2
-    lengths = n, 3 * n * a, SLOT * 5, SLOT * 4 * l
+    lengths = n, 3 * n * a, SLOT * 5, SLOT * 4 * l, n * l
     def filled(counts):
         return Record(*(bytes(rng.randrange(256) for _ in range(count)) for count in counts))
     for _ in range(3):
         History("opening, sound", plan, filled(lengths), OPENED).event(other(0, 1), 0)
     for table in range(4):
         for change in (-1, 1, 6, -lengths[table]):
-            counts = list(lengths)
-            counts[table] = max(0, counts[table] + change)
-            history = History("opening, another length", plan, filled(counts), OPENED)
-            fits = (counts[2] % SLOT, counts[3] % (SLOT * l), counts[0] - n, counts[1] - 3 * n * a) == (0, 0, 0, 0)
-            assert history.opening == (0 if fits else 2)
-            history.event(other(0, 1))
-    for over in ((n, 3 * n * a, SLOT * 1025, 0), (n, 3 * n * a, 0, SLOT * 1025 * l)):
+            # with a sound summary, one that is too short, and one that is too long: 2 comes before 20
+            for more in (0, -1, 1):
+                counts = list(lengths)
+                counts[table], counts[4] = max(0, counts[table] + change), n * l + more
+                history = History("opening, another length", plan, filled(counts), OPENED)
+                fits = (counts[2] % SLOT, counts[3] % (SLOT * l), counts[0] - n, counts[1] - 3 * n * a) == (0, 0, 0, 0)
+                assert history.opening == (2 if not fits else 20 if more else 0)
+                history.event(other(0, 1))
+    for count in (0, 1, n, n * l - 1, n * l + 1, n * l * l, 256 + n * l):
+        assert History("opening, another summary", plan, filled((*lengths[:4], count)), OPENED).opening == 20
+    for over in ((n, 3 * n * a, SLOT * 1025, 0, n * l), (n, 3 * n * a, 0, SLOT * 1025 * l, n * l)):
         assert History("opening, over 1,024 slots", plan, filled(over), OPENED).opening == 2
     for bad in ((0, 3, 2), (17, 3, 2), (2, 0, 2), (2, 8, 2), (2, 3, 0), (2, 3, 5), (255, 255, 255)):
-        for counts in (lengths, (1, 2, 3, 4)):
+        for counts in (lengths, (1, 2, 3, 4, 5)):
             history = History("opening, bad plan", bad, filled(counts), OPENED)
             assert history.opening == 1
             history.event(other(0, 0), 1)
@@ -271,14 +293,14 @@ def openings():
 PLAN = Plan(2, 3, 2)
 NETWORK = slots(6, m2a(0, 0, 1), m1a(1, 2), m2b(0, 1, 0, 1), decision(1), decision(2))
 INBOXES = slots(3, m1b(0, 0, 1), m1b(0, 1, 1, (0, 1))) + slots(3, m1b(1, 2, 2), m2b(0, 0, 0, 1))
-SOUND = Record(bytes([1, 0]), bytes([0, 0, 0, 1, 0, 1, 2, 0, 0, 0, 0, 0, 4, 3, 2, 0, 0, 0]), NETWORK, INBOXES)
+SOUND = Record(bytes([1, 0]), bytes([0, 0, 0, 1, 0, 1, 2, 0, 0, 0, 0, 0, 4, 3, 2, 0, 0, 0]), NETWORK, INBOXES, bytes([0, 1, 2, 1]))
 GOOD = [other(0, 1), other(1, 1), reading(2, 0, 3), reading(3, 0, 0), reading(4, 1, 2), proposing(5, 1, 0, 4), proposing(6, 0, 0, 1)]
 BAD = [b"", b"\0", bytes([9, 0, 0, 0]), bytes([0, 2, 0, 0]), bytes([3, 3, 0, 0]), bytes([4, 2, 0, 0]), bytes([5, 1, 2, 1]),
        bytes([7, 0, 0, 1]), bytes([0, 0, 1, 0]), bytes([0, 0, 0, 0, 0])]
 
 
 def damages():
-    """For each of the numbers 2 to 6 tables that it applies to: a function of the tables."""
+    """For each of the numbers 2 to 6, and then 20, tables that it applies to: a function of the tables."""
     def change(table, at, *values):
         return lambda r: r._replace(**{table: set_bytes(getattr(r, table), at, values)})
     def resize(table, count):
@@ -294,24 +316,27 @@ def damages():
         6: [change("inboxes", 0, 0, 0, 0, 0), change("inboxes", SLOT * 3 - 1, 1), change("inboxes", SLOT * 3, 0x3B, 0, 3, 1, 1, 1, 2),
             change("inboxes", SLOT * 6 - 1, 1), change("inboxes", SLOT * 5, 0x29, 0, 0, 1, 2), change("inboxes", SLOT * 3, 0, 0, 0, 0),
             change("inboxes", 4, 0), change("inboxes", 5, 3)],
+        20: [resize("summary", 3), resize("summary", 5), resize("summary", 0), resize("summary", 2), resize("summary", 260),
+             change("summary", 0, 4), change("summary", 3, 255), change("summary", 3, 4), change("summary", 1, 128), change("summary", 2, 7)],
     }
 
 
 def damaged():
-    """Each number from 1 to 7, each two of them at once, and some of a later row."""
+    """Each number from 1 to 6, and 20, whatever the event's role is and where it is none (7 comes after 20); each two of them at once, and 7."""
     faults = damages()
     for number, changes in faults.items():
         for k, change in enumerate(changes):
             history = History("damaged, %d" % number, PLAN, change(SOUND), GIVEN)
             for event in GOOD + [BAD[k % len(BAD)]]:
                 history.event(event, number)
+    rows = list(faults)
     for first, changes in faults.items():
-        for second in range(first + 1, 7):
+        for second in rows[rows.index(first) + 1:]:
             for change, also in zip(changes, faults[second] * 9):
                 record = also(change(SOUND)) if first != 2 else change(also(SOUND))
                 History("damaged, %d and %d" % (first, second), PLAN, record, GIVEN).event(GOOD[0], first)
     for bad in ((0, 3, 2), (17, 3, 2), (2, 0, 2), (2, 8, 2), (2, 3, 0), (2, 3, 5)):
-        for record in (SOUND, faults[2][0](SOUND), faults[3][0](SOUND), faults[6][0](SOUND)):
+        for record in (SOUND, faults[2][0](SOUND), faults[3][0](SOUND), faults[6][0](SOUND), faults[20][0](SOUND)):
             history = History("bad plan", bad, record, GIVEN)
             history.event(GOOD[0], 1)
             history.event(BAD[0], 1)
@@ -363,7 +388,10 @@ def given_tables():
         room = rng.randint(2, 9)
         inboxes = b"".join(slots(room, *(random_message(rng, plan) for _ in range(rng.randint(0, room)))) for _ in range(l))
         votes = bytes(x for _ in range(n * a) for x in (rng.randrange(4), *rng.choice(((0, 0), (0, 1), (1, 2), (2, 1)))))
-        record = Record(bytes(rng.randrange(4) for _ in range(n)), votes, slots(len(used) + rng.randrange(4), *used), inboxes)
+        # half of the summaries say what the inboxes do
+        said = [standing(plan, inboxes[SLOT * room * leader:][:SLOT * room]) for leader in range(l)]
+        summary = b"".join(said) if rng.random() < 0.5 else bytes(rng.randrange(4) for _ in range(n * l))
+        record = Record(bytes(rng.randrange(4) for _ in range(n)), votes, slots(len(used) + rng.randrange(4), *used), inboxes, summary)
         history = History("given tables", plan, record, GIVEN)
         for _ in range(12):
             history.event(next_event(rng, plan, history.record))
@@ -397,7 +425,7 @@ def again():
     for history in list(HISTORIES):
         whole = [(event, number) for event, number in zip(history.events, history.numbers) if len(event) == EVENT]
         if whole:
-            refused = next((number for _, number in whole if number in range(1, 7)), 0)
+            refused = next((number for _, number in whole if number in (*range(1, 7), 20)), 0)
             answers = [number for _, number in whole] if refused == 0 else [ANSWER] * len(whole)
             list_of = History(history.label + ", as one list", history.plan, history.given, history.mode, shown=False)
             list_of.run(b"".join(event for event, _ in whole), refused, answers)
@@ -450,7 +478,7 @@ def refused_lists():
 
 
 def damaged_lists():
-    """1 to 6 for a list and for an empty one; together with 19 the lower."""
+    """1 to 6 and 20 for a list and for an empty one; together with 19 the lower, so that 19 comes before 20."""
     events, _ = joined(MIXED)
     bad = ((events + b"\0", None), (events, 1), (events[:-1], 7), (b"", 1), (b"\0\0\0", None), (NONE + NONE, 3))
     def refused(label, plan, record, number):
@@ -458,7 +486,7 @@ def damaged_lists():
         history.run(events, number)
         history.run(b"", number)
         for some, room in bad:
-            history.run(some, number, room=room)
+            history.run(some, min(number, 19), room=room)
     for number, changes in damages().items():
         for change in changes:
             refused("a damaged list, %d" % number, PLAN, change(SOUND), number)
@@ -469,7 +497,7 @@ def damaged_lists():
 
 
 def empty_lists():
-    """Accepted where 1 to 6 pass."""
+    """Accepted where 1 to 6 and 20 pass."""
     for plan, network_slots, inbox_slots in (((2, 3, 2), 6, 3), ((1, 1, 1), 0, 0), ((16, 7, 4), 1024, 1024)):
         history = History("an empty list", plan, zeros(plan, network_slots, inbox_slots), shown=False)
         history.run(b"", 0, [])
@@ -522,14 +550,14 @@ SECTIONS = [schedules, commits, long_histories, small_tables, junk, openings, da
             again, refused_lists, damaged_lists, empty_lists, mixed_lists, lists_between]
 
 
-def choose():
-    """Writes down every history; sees that event calls answer each number from 0 to 14 at least twice, list calls each from 0 to 6 and 19, and
-    events in lists 0 and each from 7 to 14."""
-    for section in SECTIONS:
+def choose(further):
+    """Writes down every history, those of the further sections first; sees that event calls answer each number from 0 to 14 and 20 at least
+    twice, list calls each from 0 to 6, 19 and 20, and events in lists 0 and each from 7 to 14."""
+    for section in further + SECTIONS:
         section()
     events, lists, listed = counted()
-    assert set(events) == set(range(15)), events
-    assert set(lists) == {*range(7), 19}, lists
+    assert set(events) == {*range(15), 20}, events
+    assert set(lists) == {*range(7), 19, 20}, lists
     assert set(listed) == {0, *range(7, 15)}, listed
     assert all(count >= 2 for counts in (events, lists, listed) for count in counts.values())
 

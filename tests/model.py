@@ -4,10 +4,12 @@ events, the three role calls, the record (opening, the event call and the list c
     read, write                         the reader and the writer
     role_call                           the step of a resource manager, an acceptor or a leader as a call by itself
     open_record, event_call, run_call   the record's three calls
+    standing                            what each byte of a summary is to say of its inbox (document 02, Paper 5)
     rehearse                            what the rehearsal prints
 
 A resource manager is document 01's weight. A call gives a tuple: 0, then what is accepted, or the refusal's number alone.
 Tables are `bytes`; a refused call gives none, since they keep every byte. docs/DECISIONS.md says how open points are read.
+Where the summary is None, the calls are those without one: row 20 is left out, and kinds 7 and 8 ask the inbox.
 """
 
 from functools import lru_cache
@@ -98,6 +100,7 @@ def slot_of(message, order=ORDER):
     return form(message, order) + bytes(SLOT - len(form(message, order)))
 
 
+@lru_cache(maxsize=65536)
 def decode(part):
     """The message that begins with a known map."""
     return Message(MAPS[part[0]], **dict(zip(fields_of(part[0]), part[1:])))
@@ -189,12 +192,23 @@ def put(plan, table, message, number):
     return slots.index(slot), b"".join(slots)
 
 
+def is_summary(summary, count):
+    """Row 20 does not apply: so many bytes, none above 3."""
+    return len(summary) == count and all(byte <= 3 for byte in summary)
+
+
 def set_bytes(table, at, values):
     """The table with other bytes from a place on."""
     return table[:at] + bytes(values) + table[at + len(values):]
 
 
 # ---- The nine events: each gives the slot (None for quiet), the role's table and the network ----
+
+class LeaderTables(NamedTuple):
+    """What a leader's events work on in place of one table: its inbox, and its n bytes of the summary, or None."""
+    inbox: bytes
+    summary: Optional[bytes]
+
 
 def slot_read(network, high, low, kinds):
     """The message in the slot of kinds 2, 3 and 4: rows 8 and 9."""
@@ -236,9 +250,24 @@ def acceptor_receive(plan, votes, network, who, high, low):
     return slot, set_bytes(votes, at, [m.bal, m.bal, m.val]), network
 
 
-def receipt(plan, inbox, network, who, high, low):
-    _, inbox = put(plan, inbox, slot_read(network, high, low, ["1b", "2b"]), 14)
-    return None, inbox, network
+def bit_of(value):
+    """The bit of a summary's byte that stands for a value: bit 0 prepared, bit 1 aborted."""
+    return 1 << value - 1
+
+
+def marked(plan, tables, m):
+    """The summary after a receipt that left this inbox: a 2b of (i, v) sets v's bit of byte i where Decided(i, v) holds now."""
+    inbox, summary = tables
+    if summary is None or m.kind != "2b" or not is_decided(plan, inbox, m.ins, m.val):
+        return summary
+    return set_bytes(summary, m.ins, [summary[m.ins] | bit_of(m.val)])
+
+
+def receipt(plan, tables, network, who, high, low):
+    message = slot_read(network, high, low, ["1b", "2b"])
+    _, inbox = put(plan, tables.inbox, message, 14)
+    tables = tables._replace(inbox=inbox)
+    return None, tables._replace(summary=marked(plan, tables, message)), network
 
 
 def owner(plan, ballot):
@@ -254,10 +283,10 @@ def is_majority(plan, acceptors):
     return 2 * len(set(acceptors)) > plan.acceptors
 
 
-def phase1a(plan, inbox, network, who, high, low):
+def phase1a(plan, tables, network, who, high, low):
     judge_owned(plan, who, low)
     slot, network = put(plan, network, Message("1a", ins=high, bal=low), 13)
-    return slot, inbox, network
+    return slot, tables, network
 
 
 def proposed_value(reports):
@@ -266,30 +295,49 @@ def proposed_value(reports):
     return max(votes, key=lambda m: m.bal).val if votes else ABORTED
 
 
-def phase2a(plan, inbox, network, who, high, low):
+def phase2a(plan, tables, network, who, high, low):
     judge_owned(plan, who, low)
-    here = messages(inbox)
+    here = messages(tables.inbox)
     refuse_if(any(m.kind == "2a" and (m.ins, m.bal) == (high, low) for m in here), 12)
     reports = [m for m in here if m.kind == "1b" and (m.ins, m.mbal) == (high, low)]
     refuse_if(not is_majority(plan, [m.acc for m in reports]), 12)
     proposal = Message("2a", ins=high, bal=low, val=proposed_value(reports))
     slot, network = put(plan, network, proposal, 13)
-    _, inbox = put(plan, inbox, proposal, 14)
-    return slot, inbox, network
+    _, inbox = put(plan, tables.inbox, proposal, 14)
+    return slot, tables._replace(inbox=inbox), network
 
 
 def is_decided(plan, inbox, i, v):
     """Decided(i, v)."""
     votes = [m for m in messages(inbox) if m.kind == "2b" and (m.ins, m.val) == (i, v)]
-    return any(is_majority(plan, [m.acc for m in votes if m.bal == b]) for b in range(256))
+    return any(is_majority(plan, [m.acc for m in votes if m.bal == b]) for b in {m.bal for m in votes})
+
+
+def standing(plan, inbox):
+    """What the inbox says, a byte for each instance: the bits of the values that are Decided. Each ballot's votes are gathered in one pass."""
+    voters, said = {}, [0] * plan.rms
+    for m in messages(inbox):
+        if m.kind == "2b":
+            voters.setdefault((m.ins, m.bal, m.val), set()).add(m.acc)
+    for (i, _, v), acceptors in voters.items():
+        if is_majority(plan, acceptors):
+            said[i] |= bit_of(v)
+    return bytes(said)
+
+
+def stands(plan, tables, i, v):
+    """Whether kinds 7 and 8 take v as Decided for i: the summary alone says so; without one, the inbox."""
+    if tables.summary is None:
+        return is_decided(plan, tables.inbox, i, v)
+    return tables.summary[i] & bit_of(v) != 0
 
 
 def decide(quantifier, value):
-    """Kind 7 needs Decided(i, 1) for all i, kind 8 Decided(i, 2) for some i."""
-    def deciding(plan, inbox, network, who, high, low):
-        refuse_if(not quantifier(is_decided(plan, inbox, i, value) for i in range(plan.rms)), 12)
+    """Kind 7 needs value 1 to stand for all i, kind 8 value 2 for some i."""
+    def deciding(plan, tables, network, who, high, low):
+        refuse_if(not quantifier(stands(plan, tables, i, value) for i in range(plan.rms)), 12)
         slot, network = put(plan, network, Message("decision", val=value), 13)
-        return slot, inbox, network
+        return slot, tables, network
     return deciding
 
 
@@ -326,28 +374,36 @@ def act(plan, table, network, event):
 
 @call
 def role_call(role, plan, table, network, event):
-    """A role's step by itself: slot or None, the role's table, the network."""
+    """A role's step by itself: slot or None, the role's table, the network. A leader's table is its LeaderTables."""
     judge_plan(plan)
-    allowed = {RM: len(table) == plan.rms, ACCEPTOR: len(table) == 3 * plan.rms * plan.acceptors,
-               LEADER: is_slot_table(table)}
+    own = table.inbox if role == LEADER else table
+    allowed = {RM: len(own) == plan.rms, ACCEPTOR: len(own) == 3 * plan.rms * plan.acceptors, LEADER: is_slot_table(own)}
     refuse_if(not (allowed[role] and is_slot_table(network)), 2)
-    refuse_if(role == RM and not are_states(table), 3)
-    refuse_if(role == ACCEPTOR and not are_votes(table), 4)
+    refuse_if(role == RM and not are_states(own), 3)
+    refuse_if(role == ACCEPTOR and not are_votes(own), 4)
     refuse_if(not is_sound(plan, network), 5)
-    refuse_if(role == LEADER and not is_sound(plan, table), 6)
+    refuse_if(role == LEADER and not is_sound(plan, own), 6)
+    refuse_if(role == LEADER and table.summary is not None and not is_summary(table.summary, plan.rms), 20)
     judge_event(plan, event)
     refuse_if(event[0] not in KINDS[role], 7)
     return act(plan, table, network, event)
 
 
-# ---- The record: W, Q, N and I ----
+# ---- The record: W, Q, N, I and the summary ----
 
 class Record(NamedTuple):
-    """W, Q, N and I."""
+    """W, Q, N, I, and the summary or None."""
     states: bytes
     votes: bytes
     network: bytes
     inboxes: bytes
+    summary: Optional[bytes]
+
+
+def zeros(plan, network_slots, inbox_slots):
+    """The tables of a plan with so many slots in N and in each inbox, every byte zero."""
+    n, a, l = plan[:3]
+    return Record(bytes(n), bytes(3 * n * a), bytes(SLOT * network_slots), bytes(SLOT * inbox_slots * l), bytes(n * l))
 
 
 def judge_lengths(plan, record):
@@ -364,6 +420,7 @@ def open_record(plan, record):
     """Opening: the record with every byte zero."""
     judge_plan(plan)
     judge_lengths(plan, record)
+    refuse_if(len(record.summary) != plan.rms * plan.leaders, 20)
     return (Record(*(bytes(len(table)) for table in record)),)
 
 
@@ -371,6 +428,15 @@ def inbox_of(plan, record, leader):
     """Where a leader's part of I begins, and the part."""
     size = len(record.inboxes) // plan.leaders
     return leader * size, record.inboxes[leader * size:(leader + 1) * size]
+
+
+def summary_of(plan, record, leader):
+    """A leader's bytes of the summary."""
+    return record.summary and record.summary[leader * plan.rms:(leader + 1) * plan.rms]
+
+
+def leader_tables(plan, record, leader):
+    return LeaderTables(inbox_of(plan, record, leader)[1], summary_of(plan, record, leader))
 
 
 def judge_record(plan, record):
@@ -383,10 +449,16 @@ def judge_record(plan, record):
     refuse_if(not all(is_sound(plan, inbox_of(plan, record, leader)[1]) for leader in range(plan.leaders)), 6)
 
 
+def judge_summary(plan, record):
+    """Row 20, of a call that does not open."""
+    refuse_if(record.summary is not None and not is_summary(record.summary, plan.rms * plan.leaders), 20)
+
+
 @call
 def event_call(plan, record, event):
     """The event call: slot or None, the record after it."""
     judge_record(plan, record)
+    judge_summary(plan, record)
     judge_event(plan, event)
     role, who = role_of(event[0]), event[1]
     if role == RM:
@@ -395,9 +467,11 @@ def event_call(plan, record, event):
     if role == ACCEPTOR:
         slot, votes, network = act(plan, record.votes, record.network, event)
         return slot, record._replace(votes=votes, network=network)
-    begin, inbox = inbox_of(plan, record, who)
-    slot, inbox, network = act(plan, inbox, record.network, event)
-    return slot, record._replace(inboxes=set_bytes(record.inboxes, begin, inbox), network=network)
+    slot, (inbox, summary), network = act(plan, leader_tables(plan, record, who), record.network, event)
+    inboxes = set_bytes(record.inboxes, inbox_of(plan, record, who)[0], inbox)
+    if summary is not None:
+        summary = set_bytes(record.summary, who * plan.rms, summary)
+    return slot, record._replace(inboxes=inboxes, summary=summary, network=network)
 
 
 EVENT = 4                         # bytes of an event
@@ -409,6 +483,7 @@ def run_call(plan, record, events, answers):
     calls one after the other. A refusal gives neither, since answers and tables keep their bytes."""
     judge_record(plan, record)
     refuse_if(len(events) % EVENT != 0 or len(answers) != len(events) // EVENT, 19)
+    judge_summary(plan, record)
     numbers = []
     for at in range(0, len(events), EVENT):
         outcome = event_call(plan, record, events[at:at + EVENT])
@@ -427,9 +502,7 @@ def rehearse(text):
     if len(text) < 5:
         return "1\n"
     plan = Plan(*text[:3], int.from_bytes(text[3:5], "big"))
-    record = Record(bytes(plan.rms), bytes(3 * plan.rms * plan.acceptors), bytes(SLOT * MAX_SLOTS),
-                    bytes(SLOT * MAX_SLOTS * plan.leaders))
-    outcome = open_record(plan, record)
+    outcome = open_record(plan, zeros(plan, MAX_SLOTS, MAX_SLOTS))
     if outcome[0] != 0:
         return "1\n"
     record, lines, events = outcome[1], [], text[5:]

@@ -8,16 +8,15 @@ from calls import other, proposing, reading
 from model import (
     MAX_EVENTS,
     MAX_SLOTS,
-    SLOT,
     UNUSED,
     Plan,
-    Record,
     Refused,
     decode,
     event_call,
     judge_event,
     open_record,
     slots_of,
+    zeros,
 )
 
 VALUES = {1: "prepared", 2: "aborted"}
@@ -38,6 +37,7 @@ REFUSALS = {
     12: "not enabled",
     13: "N is full",
     14: "the inbox is full",
+    20: "the summary is damaged",
 }
 
 
@@ -93,8 +93,7 @@ def narrate(text):
     if len(text) < 5:
         return refusal(1) + "\n"
     plan = Plan(*text[:3], int.from_bytes(text[3:5], "big"))
-    outcome = open_record(plan, Record(bytes(plan.rms), bytes(3 * plan.rms * plan.acceptors), bytes(SLOT * MAX_SLOTS),
-                                       bytes(SLOT * MAX_SLOTS * plan.leaders)))
+    outcome = open_record(plan, zeros(plan, MAX_SLOTS, MAX_SLOTS))
     if outcome[0] != 0:
         return refusal(outcome[0]) + "\n"
     record, lines, events = outcome[1], [], text[5:]

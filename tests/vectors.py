@@ -7,8 +7,8 @@
                                         often each number is answered in crates/histories, by event calls, by list calls and to
                                         the events of a list
 
-tests/cases_*.py choose the calls, and tests/calls.py says how they are written; tests/histories.py and tests/narration.py
-choose the histories of those two programs; the rehearsal has document 01's example; tests/stories.py chooses the inputs below
+tests/cases_*.py choose the calls, and tests/calls.py says how they are written; tests/histories.py, tests/histories_summary.py and
+tests/narration.py choose the histories of those two programs; the rehearsal has document 01's example; tests/stories.py chooses the inputs below
 tests/rehearsed/. tests/model.py works out from documents 01 and 02 alone what each call answers and stores. The test command needs
 none of this: it compares a program's output with the file.
 """
@@ -20,21 +20,23 @@ import cases_messages
 import cases_random
 import cases_refusals
 import cases_rules
+import cases_summary
 import cases_tables
 import histories
+import histories_summary
 import narration
 import stories
 from calls import CALLS, READER, WRITER
 from model import ACCEPTOR, LEADER, RM, rehearse
 
-CASES = [cases_messages, cases_refusals, cases_tables, cases_rules, cases_random]
+CASES = [cases_messages, cases_refusals, cases_tables, cases_rules, cases_summary, cases_random]
 ROOT = pathlib.Path(__file__).resolve().parent.parent
 
 # The numbers that each call can answer.
 NUMBERS = {
     RM: {0, 1, 2, 3, 5, 7, 8, 9, 11, 12, 13},
     ACCEPTOR: {0, 1, 2, 4, 5, 7, 8, 9, 12, 13},
-    LEADER: {0, 1, 2, 5, 6, 7, 8, 9, 10, 12, 13, 14},
+    LEADER: {0, 1, 2, 5, 6, 7, 8, 9, 10, 12, 13, 14, 20},
     READER: {0, 1, 15, 16, 17, 18},
     WRITER: {0, 1, 17},
 }
@@ -53,7 +55,7 @@ def choose():
         got = [number for name, _, number, _, _ in CALLS if name == what]
         assert set(got) == numbers, (what, sorted(set(got)))
         assert all(got.count(number) >= 2 for number in numbers), what
-    histories.choose()
+    histories.choose(histories_summary.SECTIONS)
     assert rehearse(EXAMPLE) == PRINTED
 
 

@@ -13,6 +13,9 @@
 
 enum { SLOTS = 16, ORDER = 0x0102 };
 
+/* The numbers of the refusals, and 0. */
+enum { REFUSALS = PAXOS_COMMIT_REFUSAL_BAD_SUMMARY + 1 };
+
 /* The order number as the last two bytes of a message. */
 #define ORDER_BYTES ORDER >> 8, ORDER & 0xFF
 
@@ -50,16 +53,22 @@ static uint8_t *zeros(size_t len) {
     return bytes;
 }
 
-/* ---- the record, all roles on four tables ---- */
+/* ---- the record, all roles on five tables ---- */
 
 static uint8_t states[PAXOS_COMMIT_STATES_SIZE(1)];
 static uint8_t votes[PAXOS_COMMIT_VOTES_SIZE(1, 1)];
 static uint8_t network[PAXOS_COMMIT_NETWORK_SIZE(SLOTS)];
 static uint8_t inboxes[PAXOS_COMMIT_INBOXES_SIZE(1, SLOTS)];
+static uint8_t summary[PAXOS_COMMIT_SUMMARY_SIZE(1, 1)];
+
+static uint8_t open_record(void) {
+    return paxos_commit_open(1, 1, 1, ORDER, states, sizeof states, votes, sizeof votes, network, sizeof network,
+                             inboxes, sizeof inboxes, summary, sizeof summary);
+}
 
 static uint32_t step(const uint8_t *event, size_t len) {
     return paxos_commit_step(1, 1, 1, ORDER, states, sizeof states, votes, sizeof votes, network, sizeof network,
-                             inboxes, sizeof inboxes, event, len);
+                             inboxes, sizeof inboxes, summary, sizeof summary, event, len);
 }
 
 static void rehearsal(void) {
@@ -70,8 +79,7 @@ static void rehearsal(void) {
                                          "weight 0 takes Commit",   "weight 0 chooses to abort"};
     memset(states, 0xAA, sizeof states);
     say("step before opening", step(events[0], 4));
-    printf("open: %u\n", paxos_commit_open(1, 1, 1, ORDER, states, sizeof states, votes, sizeof votes, network,
-                                           sizeof network, inboxes, sizeof inboxes));
+    printf("open: %u\n", open_record());
     say_ending(paxos_commit_ending(1, 1, 1, ORDER, states, sizeof states));
     for (size_t i = 0; i < 6; i++)
         say(words[i], step(events[i], 4));
@@ -80,6 +88,7 @@ static void rehearsal(void) {
     show("Q", votes, sizeof votes);
     show("N", network, 24);
     show("I", inboxes, 8);
+    show("summary", summary, sizeof summary);
 }
 
 /* ---- junk: any bytes of any length get an answer, and a refused call changes nothing ---- */
@@ -92,8 +101,8 @@ static uint8_t random_byte(void) {
 }
 
 static void junk(void) {
-    uint8_t w[sizeof states], q[sizeof votes], n[sizeof network], i[sizeof inboxes], bytes[16];
-    unsigned refused[19] = {0}, read[19] = {0}, accepted = 0, changed = 0;
+    uint8_t w[sizeof states], q[sizeof votes], n[sizeof network], i[sizeof inboxes], s[sizeof summary], bytes[16];
+    unsigned refused[REFUSALS] = {0}, read[REFUSALS] = {0}, accepted = 0, changed = 0;
     for (int round = 0; round < 10000; round++) {
         for (size_t k = 0; k < sizeof bytes; k++)
             bytes[k] = random_byte();
@@ -109,13 +118,14 @@ static void junk(void) {
         memcpy(q, votes, sizeof votes);
         memcpy(n, network, sizeof network);
         memcpy(i, inboxes, sizeof inboxes);
+        memcpy(s, summary, sizeof summary);
         uint8_t number = paxos_commit_refusal_of(step(bytes, len));
         if (number == 0) {
             accepted++;
         } else {
-            refused[number % 19]++;
+            refused[number % REFUSALS]++;
             changed += memcmp(w, states, sizeof w) || memcmp(q, votes, sizeof q) || memcmp(n, network, sizeof n) ||
-                       memcmp(i, inboxes, sizeof i);
+                       memcmp(i, inboxes, sizeof i) || memcmp(s, summary, sizeof s);
         }
         /* Any bytes as a message, half of them with the order number. */
         len = random_byte() % 9;
@@ -124,15 +134,15 @@ static void junk(void) {
             bytes[len - 2] = ORDER >> 8;
             bytes[len - 1] = ORDER & 0xFF;
         }
-        read[paxos_commit_byte(paxos_commit_read(16, 7, 4, ORDER, bytes, len), 0) % 19]++;
+        read[paxos_commit_byte(paxos_commit_read(16, 7, 4, ORDER, bytes, len), 0) % REFUSALS]++;
     }
     printf("junk events: %u accepted", accepted);
-    for (unsigned k = 1; k < 19; k++)
+    for (unsigned k = 1; k < REFUSALS; k++)
         if (refused[k])
             printf(", %u refused with %u", refused[k], k);
     printf("; %u refused ones changed a byte\n", changed);
     printf("junk messages: %u read", read[0]);
-    for (unsigned k = 1; k < 19; k++)
+    for (unsigned k = 1; k < REFUSALS; k++)
         if (read[k])
             printf(", %u refused with %u", read[k], k);
     printf("\n");
@@ -149,17 +159,37 @@ static void junk(void) {
     say_ending(paxos_commit_ending(1, 1, 1, ORDER, states, sizeof states));
     say_ending(paxos_commit_ending(1, 1, 1, ORDER, states, 0));
     states[0] = PAXOS_COMMIT_STATE_COMMITTED;
-    say("no weights in the plan", paxos_commit_step(0, 1, 1, ORDER, states, sizeof states, votes, sizeof votes, network,
-                                                    sizeof network, inboxes, sizeof inboxes, prepare, 4));
-    say("a table of another length", paxos_commit_step(1, 1, 1, ORDER, states, sizeof states, votes, sizeof votes,
-                                                       network, 17, inboxes, sizeof inboxes, prepare, 4));
+    say("no weights in the plan",
+        paxos_commit_step(0, 1, 1, ORDER, states, sizeof states, votes, sizeof votes, network, sizeof network, inboxes,
+                          sizeof inboxes, summary, sizeof summary, prepare, 4));
+    say("a table of another length",
+        paxos_commit_step(1, 1, 1, ORDER, states, sizeof states, votes, sizeof votes, network, 17, inboxes,
+                          sizeof inboxes, summary, sizeof summary, prepare, 4));
+
+    /* A summary that is none: 20, also with what is no event; opening asks for its length alone. */
+    uint8_t kept = summary[0], two[2] = {0xEE, 0xEE};
+    summary[0] = 4;
+    say("a byte of the summary above 3", step(prepare, 4));
+    say("the same without an event", step(prepare, 0));
+    network[23] ^= 1;
+    say("the same with a damaged N", step(prepare, 4));
+    network[23] ^= 1;
+    summary[0] = kept;
+    say("a summary of another length",
+        paxos_commit_step(1, 1, 1, ORDER, states, sizeof states, votes, sizeof votes, network, sizeof network, inboxes,
+                          sizeof inboxes, two, sizeof two, prepare, 4));
+    printf("opening with a summary of another length: %u\n",
+           paxos_commit_open(1, 1, 1, ORDER, states, sizeof states, votes, sizeof votes, network, sizeof network,
+                             inboxes, sizeof inboxes, two, sizeof two));
+    show("summary", two, sizeof two);
+    show("W", states, sizeof states);
 }
 
 /* ---- a backlog: events in one list, a byte for the answer of each ---- */
 
 static uint8_t run(const uint8_t *events, size_t events_len, uint8_t *answers, size_t answers_len) {
     return paxos_commit_run(1, 1, 1, ORDER, states, sizeof states, votes, sizeof votes, network, sizeof network,
-                            inboxes, sizeof inboxes, events, events_len, answers, answers_len);
+                            inboxes, sizeof inboxes, summary, sizeof summary, events, events_len, answers, answers_len);
 }
 
 static void say_run(const char *what, uint8_t number, const uint8_t *answers, size_t answers_len) {
@@ -170,9 +200,9 @@ static void say_run(const char *what, uint8_t number, const uint8_t *answers, si
     show("answers", answers, answers_len);
 }
 
-/* The four tables of the record, to compare them. */
+/* The five tables of the record, to compare them. */
 struct record {
-    uint8_t w[sizeof states], q[sizeof votes], n[sizeof network], i[sizeof inboxes];
+    uint8_t w[sizeof states], q[sizeof votes], n[sizeof network], i[sizeof inboxes], s[sizeof summary];
 };
 
 static struct record kept(void) {
@@ -181,6 +211,7 @@ static struct record kept(void) {
     memcpy(record.q, votes, sizeof votes);
     memcpy(record.n, network, sizeof network);
     memcpy(record.i, inboxes, sizeof inboxes);
+    memcpy(record.s, summary, sizeof summary);
     return record;
 }
 
@@ -189,6 +220,7 @@ static void put_back(const struct record *record) {
     memcpy(votes, record->q, sizeof votes);
     memcpy(network, record->n, sizeof network);
     memcpy(inboxes, record->i, sizeof inboxes);
+    memcpy(summary, record->s, sizeof summary);
 }
 
 static void backlog(void) {
@@ -202,8 +234,7 @@ static void backlog(void) {
     uint8_t answers[8];
     struct record fresh, old, now;
     printf("-- a backlog as one list\n");
-    paxos_commit_open(1, 1, 1, ORDER, states, sizeof states, votes, sizeof votes, network, sizeof network, inboxes,
-                      sizeof inboxes);
+    open_record();
     fresh = kept();
     memset(answers, 0xEE, sizeof answers);
     say_run("seven events", run(list, sizeof events, answers, 7), answers, 8);
@@ -217,6 +248,10 @@ static void backlog(void) {
     network[23] ^= 1;
     say_run("a cut list, with a byte after a message in N", run(list, sizeof events - 1, answers, 6), answers, 8);
     network[23] ^= 1;
+    summary[0] ^= 4;
+    say_run("a cut list, with a byte of the summary above 3", run(list, sizeof events - 1, answers, 6), answers, 8);
+    say_run("the list, with a byte of the summary above 3", run(list, sizeof events, answers, 7), answers, 8);
+    summary[0] ^= 4;
     say_run("no events", run(list, 0, answers, 0), answers, 8);
     now = kept();
     printf("tables: %s\n", memcmp(&now, &old, sizeof now) ? "changed" : "unchanged");
@@ -265,12 +300,13 @@ enum { RMS = 2, ACCEPTORS = 3, LEADERS = 1 };
 typedef uint32_t role_step(uint8_t, uint8_t, uint8_t, uint16_t, uint8_t *, size_t, uint8_t *, size_t, const uint8_t *,
                            size_t);
 
-/* A host: its number, its role's step and table, and an N of its own with what it sent and what came to it. */
+/* A host: its number, its role's step and table, and an N of its own with what it sent and what came to it. A leader
+ * has no step here, and its summary beside its inbox. */
 struct host {
     const char *name;
     role_step *step;
-    uint8_t *table, *network;
-    size_t table_len, network_len;
+    uint8_t *table, *network, *summary;
+    size_t table_len, network_len, summary_len;
     uint8_t who;
 };
 
@@ -281,19 +317,31 @@ struct message {
 };
 
 static struct host new_host(const char *name, uint8_t who, role_step *step, size_t table_len, size_t slots) {
-    size_t network_len = PAXOS_COMMIT_NETWORK_SIZE(slots);
-    struct host host = {name, step, zeros(table_len), zeros(network_len), table_len, network_len, who};
+    size_t network_len = PAXOS_COMMIT_NETWORK_SIZE(slots),
+           summary_len = step == NULL ? PAXOS_COMMIT_LEADER_SUMMARY_SIZE(RMS) : 0;
+    struct host host = {name,      step,        zeros(table_len), zeros(network_len), zeros(summary_len),
+                        table_len, network_len, summary_len,      who};
     return host;
+}
+
+static void free_host(struct host *host) {
+    free(host->table);
+    free(host->network);
+    free(host->summary);
 }
 
 /* An event of the host; what its step sent, which is none where it is quiet or refused. */
 static struct message call(struct host *host, const char *what, const uint8_t event[PAXOS_COMMIT_EVENT]) {
     struct message sent = {{0}, 0};
-    uint32_t answer = host->step(RMS, ACCEPTORS, LEADERS, ORDER, host->table, host->table_len, host->network,
-                                 host->network_len, event, PAXOS_COMMIT_EVENT);
+    uint32_t answer =
+        host->step != NULL
+            ? host->step(RMS, ACCEPTORS, LEADERS, ORDER, host->table, host->table_len, host->network, host->network_len,
+                         event, PAXOS_COMMIT_EVENT)
+            : paxos_commit_leader_step(RMS, ACCEPTORS, LEADERS, ORDER, host->table, host->table_len, host->summary,
+                                       host->summary_len, host->network, host->network_len, event, PAXOS_COMMIT_EVENT);
     printf("%s %u ", host->name, host->who);
     say(what, answer);
-    /* Here the role's table and N go to disk, before what was sent leaves. */
+    /* Here the role's table, a leader's summary with it, and N go to disk, before what was sent leaves. */
     sent.len = paxos_commit_sent(host->network, host->network_len, answer, sent.bytes);
     return sent;
 }
@@ -325,7 +373,7 @@ static struct message take(struct host *host, const char *what, uint8_t kind, co
 
 static void hosts(size_t slots) {
     struct host weight[RMS], acceptor[ACCEPTORS],
-        leader = new_host("leader", 0, paxos_commit_leader_step, PAXOS_COMMIT_INBOX_SIZE(slots), slots);
+        leader = new_host("leader", 0, NULL, PAXOS_COMMIT_INBOX_SIZE(slots), slots);
     for (uint8_t i = 0; i < RMS; i++)
         weight[i] = new_host("weight", i, paxos_commit_rm_step, PAXOS_COMMIT_STATES_SIZE(RMS), slots);
     for (uint8_t a = 0; a < ACCEPTORS; a++)
@@ -357,15 +405,23 @@ static void hosts(size_t slots) {
     take(&weight[0], "takes Commit", PAXOS_COMMIT_KIND_TAKE_DECISION, &other);
     for (uint8_t i = 0; i < RMS; i++) {
         show("W", weight[i].table, weight[i].table_len);
-        free(weight[i].table);
-        free(weight[i].network);
+        free_host(&weight[i]);
     }
-    for (uint8_t a = 0; a < ACCEPTORS; a++) {
-        free(acceptor[a].table);
-        free(acceptor[a].network);
-    }
-    free(leader.table);
-    free(leader.network);
+    for (uint8_t a = 0; a < ACCEPTORS; a++)
+        free_host(&acceptor[a]);
+    show("summary", leader.summary, leader.summary_len);
+
+    /* A summary of another length, and one with a byte above 3: 20, also with an event that is none. */
+    uint8_t event[PAXOS_COMMIT_EVENT];
+    paxos_commit_event(PAXOS_COMMIT_KIND_COMMIT, LEADERS, event);
+    leader.summary_len--;
+    call(&leader, "decides Commit as another leader, with a short summary", event);
+    leader.summary_len++;
+    leader.summary[1] |= 4;
+    call(&leader, "decides Commit as another leader, with a damaged summary", event);
+    leader.summary[1] &= 3;
+    call(&leader, "decides Commit as another leader", event);
+    free_host(&leader);
 }
 
 /* ---- the writer ---- */
@@ -409,7 +465,7 @@ static void deliveries(void) {
                                     0x19};
     size_t n_len = PAXOS_COMMIT_NETWORK_SIZE(3);
     uint8_t *n = zeros(n_len), *old = zeros(n_len);
-    unsigned delivered = 0, refused[19] = {0}, changed = 0;
+    unsigned delivered = 0, refused[REFUSALS] = {0}, changed = 0;
     deliver("a 2a", ACCEPTORS, n, n_len, prepared, sizeof prepared);
     deliver("the same 2a", ACCEPTORS, n, n_len, prepared, sizeof prepared);
     deliver("a cut 2a", ACCEPTORS, n, n_len, prepared, 5);
@@ -437,7 +493,7 @@ static void deliveries(void) {
         if (number == 0) {
             delivered++;
         } else {
-            refused[number % 19]++;
+            refused[number % REFUSALS]++;
             changed += memcmp(old, n, n_len) != 0;
         }
         if (damage != 0)
@@ -445,7 +501,7 @@ static void deliveries(void) {
         free(bytes);
     }
     printf("junk deliveries: %u delivered", delivered);
-    for (unsigned k = 1; k < 19; k++)
+    for (unsigned k = 1; k < REFUSALS; k++)
         if (refused[k])
             printf(", %u refused with %u", refused[k], k);
     printf("; %u refused ones changed a byte\n", changed);
@@ -456,9 +512,10 @@ static void deliveries(void) {
 /* ---- the ballots of each leader, also where the plan has no such leader; the linked call says which it owns ---- */
 
 static int stepped_at(uint8_t leaders, uint8_t leader, uint8_t bal) {
-    uint8_t event[PAXOS_COMMIT_EVENT], inbox[PAXOS_COMMIT_SLOT], n[PAXOS_COMMIT_SLOT] = {0};
+    uint8_t event[PAXOS_COMMIT_EVENT], inbox[PAXOS_COMMIT_SLOT], own[1] = {0}, n[PAXOS_COMMIT_SLOT] = {0};
     paxos_commit_event_at_ballot(PAXOS_COMMIT_KIND_PHASE_1A, leader, 0, bal, event);
-    return paxos_commit_leader_step(1, 1, leaders, ORDER, inbox, 0, n, sizeof n, event, sizeof event) == 0;
+    return paxos_commit_leader_step(1, 1, leaders, ORDER, inbox, 0, own, sizeof own, n, sizeof n, event,
+                                    sizeof event) == 0;
 }
 
 static void ballots(void) {
@@ -497,7 +554,7 @@ static void names(void) {
     }
     paxos_commit_event_at_slot(PAXOS_COMMIT_KIND_VOTE, 2, PAXOS_COMMIT_ANSWER_REFUSED + 15, event);
     show("event with a refused answer as its slot", event, sizeof event);
-    for (uint8_t number = 0; number <= 20; number++)
+    for (uint8_t number = 0; number <= REFUSALS; number++)
         printf("refusal %u: %s\n", number, paxos_commit_refusal_name(number));
 }
 

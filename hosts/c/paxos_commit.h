@@ -2,7 +2,7 @@
  * The proved Paxos Commit record, for C and C++.
  *
  * The calls are written in Rattle and proved to answer and store exactly what document 01 says, as Papers 1
- * to 4 of document 02 change it. Each group below is a static library of its own; a host links those that it needs, and
+ * to 5 of document 02 change it. Each group below is a static library of its own; a host links those that it needs, and
  * none has another role's code. They link into x86-64 programs, position independent or not, and use less than 8 KiB of
  * stack. libhost_message.a wants nothing, the others `memset`.
  *
@@ -15,7 +15,7 @@
  *     libhost_batch.a       paxos_commit_run
  *
  * What is lent is any bytes of any length: there is nothing to check before a call. A call accepts, or answers one
- * refusal, the one with the lowest number that applies; a refusal changes no byte. Every call ends.
+ * refusal, the first that applies in the order 1 to 6, 19, 20, 7 to 18; a refusal changes no byte. Every call ends.
  *
  * What is the caller's affair, as everywhere in C: a pointer is followed by the number of bytes behind it, all
  * readable, and writable where the pointer is not to const. No pointer is null, also with length 0 (then any other
@@ -45,7 +45,8 @@ extern "C" {
  * calls on a record are given the plan that it was opened with: the tables do not keep it, and no call compares the
  * counts; a message of another order number in a table is damage (5, 6). docs/HOSTS.md says how to choose it. */
 
-/* Sizes in bytes. N (network) has `slots` slots, at most 1,024, and so has each inbox of I (inboxes); 0 is allowed. */
+/* Sizes in bytes. N (network) has `slots` slots, at most 1,024, and so has each inbox of I (inboxes); 0 is allowed. The
+ * summary has a byte for each leader and instance, a leader's own call is lent its part of it. */
 #define PAXOS_COMMIT_EVENT 4
 #define PAXOS_COMMIT_SLOT 8
 #define PAXOS_COMMIT_MAX_SLOTS 1024
@@ -54,14 +55,17 @@ extern "C" {
 #define PAXOS_COMMIT_NETWORK_SIZE(slots) ((size_t)8 * (slots))
 #define PAXOS_COMMIT_INBOX_SIZE(slots) ((size_t)8 * (slots))
 #define PAXOS_COMMIT_INBOXES_SIZE(leaders, slots) ((size_t)8 * (slots) * (leaders))
+#define PAXOS_COMMIT_SUMMARY_SIZE(rms, leaders) ((size_t)(rms) * (leaders))
+#define PAXOS_COMMIT_LEADER_SUMMARY_SIZE(rms) ((size_t)(rms))
 
-/* The largest plan and tables: 16 + 336 + 8,192 + 32,768 bytes. */
+/* The largest plan and tables: 16 + 336 + 8,192 + 32,768 + 64 bytes. */
 #define PAXOS_COMMIT_STATES_MAX 16
 #define PAXOS_COMMIT_VOTES_MAX 336
 #define PAXOS_COMMIT_NETWORK_MAX 8192
 #define PAXOS_COMMIT_INBOXES_MAX 32768
+#define PAXOS_COMMIT_SUMMARY_MAX 64
 
-/* Why a call was refused: of the reasons that apply, the one with the lowest number. 0 is no refusal. */
+/* Why a call was refused: of the reasons that apply, the first in the order 1 to 6, 19, 20, 7 to 18. 0 is no refusal. */
 enum paxos_commit_refusal {
     /* every call: rms, acceptors or leaders out of range */
     PAXOS_COMMIT_REFUSAL_BAD_PLAN = 1,
@@ -101,7 +105,9 @@ enum paxos_commit_refusal {
     /* reader, delivery: nothing else is wrong, but the message has another order number */
     PAXOS_COMMIT_REFUSAL_OTHER_ORDER = 18,
     /* the list call: not whole events, or the answers are not one byte for each event */
-    PAXOS_COMMIT_REFUSAL_BAD_LIST = 19
+    PAXOS_COMMIT_REFUSAL_BAD_LIST = 19,
+    /* the summary's length is not the plan's, or, except at opening, a byte of it is above 3; comes before 7 */
+    PAXOS_COMMIT_REFUSAL_BAD_SUMMARY = 20
 };
 
 /* A weight's state, a byte of W. */
@@ -112,7 +118,9 @@ enum paxos_commit_state {
     PAXOS_COMMIT_STATE_ABORTED = 3
 };
 
-/* A value, `val` of a 1b, 2a or 2b; in Q 0 is no vote. 2 is aborted here, and committed as a state. */
+/* A value, `val` of a 1b, 2a or 2b; in Q 0 is no vote. 2 is aborted here, and committed as a state. In the summary a
+ * value is its own bit: byte l * rms + i has VALUE_PREPARED where leader l has heard that prepared is decided for
+ * instance i, and VALUE_ABORTED where aborted is. */
 enum paxos_commit_value { PAXOS_COMMIT_VALUE_PREPARED = 1, PAXOS_COMMIT_VALUE_ABORTED = 2 };
 
 /* What a leader decided, `val` of a decision. */
@@ -143,11 +151,12 @@ enum paxos_commit_kind {
     PAXOS_COMMIT_KIND_CHOOSE_TO_ABORT = 1, /* weight: sends 2a(who, 0, aborted) */
     PAXOS_COMMIT_KIND_TAKE_DECISION = 2,   /* weight: takes the decision in the slot; quiet */
     PAXOS_COMMIT_KIND_VOTE = 3,            /* acceptor: answers the 1a in the slot by a 1b, or the 2a there by a 2b */
-    PAXOS_COMMIT_KIND_RECEIPT = 4,         /* leader: takes the 1b or 2b in the slot into its inbox; quiet */
+    PAXOS_COMMIT_KIND_RECEIPT = 4,         /* leader: takes the 1b or 2b in the slot into its inbox; quiet. A 2b for a
+                                              value that its inbox then decides sets that bit of the summary */
     PAXOS_COMMIT_KIND_PHASE_1A = 5,        /* leader: sends 1a(high, low) */
     PAXOS_COMMIT_KIND_PHASE_2A = 6,        /* leader: sends 2a(high, low, v), kept in its inbox, whose 1b say v */
-    PAXOS_COMMIT_KIND_COMMIT = 7,          /* leader: sends Commit */
-    PAXOS_COMMIT_KIND_ABORT = 8            /* leader: sends Abort */
+    PAXOS_COMMIT_KIND_COMMIT = 7,          /* leader: sends Commit, if its summary has all instances as prepared */
+    PAXOS_COMMIT_KIND_ABORT = 8            /* leader: sends Abort, if its summary has some instance as aborted */
 };
 
 /* What a step answers: below 1,024 the slot of N where the sent message stands; ANSWER_QUIET for an accepted step that
@@ -209,24 +218,29 @@ uint32_t paxos_commit_acceptor_step(uint8_t rms, uint8_t acceptors, uint8_t lead
 
 /* ---- libhost_leader.a ---- */
 
-/* The step of a leader: kinds 4 to 8. `inbox` is that leader's inbox alone, whole slots; nothing ties it to the event's
- * `who`, which is the host's to see to. Refused: 1, 2, 5, 6, 7, 8, 9, 10, 12, 13 or 14. */
+/* The step of a leader: kinds 4 to 8. `inbox` is that leader's inbox alone, whole slots, and `summary` its part of the
+ * summary, PAXOS_COMMIT_LEADER_SUMMARY_SIZE bytes, byte i for instance i; nothing ties them to the event's `who`, nor
+ * to each other, which is the host's to see to. Kinds 7 and 8 read the summary alone, as it is. Refused: 1, 2, 5, 6,
+ * 20, 7, 8, 9, 10, 12, 13 or 14, in this order. */
 uint32_t paxos_commit_leader_step(uint8_t rms, uint8_t acceptors, uint8_t leaders, uint16_t order, uint8_t *inbox,
-                                  size_t inbox_len, uint8_t *network, size_t network_len, const uint8_t *event,
-                                  size_t event_len);
+                                  size_t inbox_len, uint8_t *summary, size_t summary_len, uint8_t *network,
+                                  size_t network_len, const uint8_t *event, size_t event_len);
 
 /* ---- libhost_record.a ---- */
 
-/* Opens a record: 0, and every byte of the four tables is 0. Refused: 1 or 2. `inboxes` is I, PAXOS_COMMIT_INBOXES_SIZE
- * bytes; leader l's inbox is its l-th equal part. */
+/* Opens a record: 0, and every byte of the five tables is 0. Refused: 1, 2 or 20. `inboxes` is I,
+ * PAXOS_COMMIT_INBOXES_SIZE bytes; leader l's inbox is its l-th equal part. `summary` is PAXOS_COMMIT_SUMMARY_SIZE
+ * bytes; leader l's part is its l-th equal part, `rms` bytes. */
 uint8_t paxos_commit_open(uint8_t rms, uint8_t acceptors, uint8_t leaders, uint16_t order, uint8_t *states,
                           size_t states_len, uint8_t *votes, size_t votes_len, uint8_t *network, size_t network_len,
-                          uint8_t *inboxes, size_t inboxes_len);
+                          uint8_t *inboxes, size_t inboxes_len, uint8_t *summary, size_t summary_len);
 
-/* The event call, all nine kinds. It judges all four tables first. Refused: 1 to 14. */
+/* The event call, all nine kinds. It judges all five tables first, whatever the event. Refused: 1 to 6, 20, 7 to 14, in
+ * this order. */
 uint32_t paxos_commit_step(uint8_t rms, uint8_t acceptors, uint8_t leaders, uint16_t order, uint8_t *states,
                            size_t states_len, uint8_t *votes, size_t votes_len, uint8_t *network, size_t network_len,
-                           uint8_t *inboxes, size_t inboxes_len, const uint8_t *event, size_t event_len);
+                           uint8_t *inboxes, size_t inboxes_len, uint8_t *summary, size_t summary_len,
+                           const uint8_t *event, size_t event_len);
 
 /* How the order with this W stands: an ENDING_. Refused: 1, 2 or 3. */
 uint32_t paxos_commit_ending(uint8_t rms, uint8_t acceptors, uint8_t leaders, uint16_t order, const uint8_t *states,
@@ -234,15 +248,15 @@ uint32_t paxos_commit_ending(uint8_t rms, uint8_t acceptors, uint8_t leaders, ui
 
 /* ---- libhost_batch.a ---- */
 
-/* The list call: a backlog of events in one list, PAXOS_COMMIT_EVENT bytes each, any number of them. It judges all four
+/* The list call: a backlog of events in one list, PAXOS_COMMIT_EVENT bytes each, any number of them. It judges all five
  * tables once, then runs the events in order and goes on after one that is refused. Accepted: 0, and byte k of
  * `answers`, which has a byte for each event, is 0 where event k was accepted, and else its refusal, 7 to 14; answers
- * and tables are those of paxos_commit_step called for one event after the other. Refused: 1 to 6 or 19; then no byte
- * of the tables changes, and none of `answers`. */
+ * and tables are those of paxos_commit_step called for one event after the other. Refused: 1 to 6, 19 or 20; then no
+ * byte of the tables changes, and none of `answers`. */
 uint8_t paxos_commit_run(uint8_t rms, uint8_t acceptors, uint8_t leaders, uint16_t order, uint8_t *states,
                          size_t states_len, uint8_t *votes, size_t votes_len, uint8_t *network, size_t network_len,
-                         uint8_t *inboxes, size_t inboxes_len, const uint8_t *events, size_t events_len,
-                         uint8_t *answers, size_t answers_len);
+                         uint8_t *inboxes, size_t inboxes_len, uint8_t *summary, size_t summary_len,
+                         const uint8_t *events, size_t events_len, uint8_t *answers, size_t answers_len);
 
 /* ---- what a host does around the calls; plain C, tested and not proved ---- */
 
@@ -303,7 +317,7 @@ static inline size_t paxos_commit_sent(const uint8_t *network, size_t network_le
     return len;
 }
 
-/* A refusal in words, with its number; "no refusal" for 0 and for a number above 19. */
+/* A refusal in words, with its number; "no refusal" for 0 and for a number above 20. */
 static inline const char *paxos_commit_refusal_name(uint8_t number) {
     switch (number) {
     case PAXOS_COMMIT_REFUSAL_BAD_PLAN:
@@ -344,6 +358,8 @@ static inline const char *paxos_commit_refusal_name(uint8_t number) {
         return "the message is of another order (18)";
     case PAXOS_COMMIT_REFUSAL_BAD_LIST:
         return "the list is not whole events with an answer each (19)";
+    case PAXOS_COMMIT_REFUSAL_BAD_SUMMARY:
+        return "the summary does not fit the plan, or holds a byte above 3 (20)";
     default:
         return "no refusal";
     }

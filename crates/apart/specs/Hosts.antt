@@ -1,9 +1,10 @@
 -- Hosts that are apart: each resource manager (document 01: weight), each acceptor and each leader is a host of its own, with its role's table
--- and an N of its own, and makes its role's own call. Messages pass between the hosts: lost, doubled, late, in any order. All have one plan.
+-- and an N of its own, a leader with its bytes of the summary too, and makes its role's own call. Messages pass between the hosts: lost, doubled,
+-- late, in any order. All have one plan.
 --     Role, Host, System          the hosts by role and number, and every message that was sent
 --     Happening                   what may happen to a host: a call, a delivery, a restart, each with any bytes
---     roleStep, called, delivered, restarted, sentBy     what each does to its host, and what a call sends
---     OwnNumber, NotForged, TableKept, Genuine     what is asked of a happening: three hypotheses by name, and which of them where
+--     Left, called, delivered, restarted, sentBy     what each answers and does to its host, and what a call sends
+--     OwnNumber, NotForged, TableKept, SummaryKept, Genuine     what is asked of a happening: four hypotheses by name, and which of them where
 --     Made, made                  what it answers and leaves
 --     row, published              the weights' states, and the variables of module PaxosCommit
 --     Fresh, zeroHosts            the first system: zeros of any lengths
@@ -40,7 +41,7 @@ use Rattle.tcommit.specs.TCommit.{except, TCNext}
 use Rattle.paxos_commit.specs.PaxosCommit.{State}
 use Rattle.rm.specs.Rm.{rmStep}
 use Rattle.acceptor.specs.Acceptor.{acceptorStep}
-use Rattle.leader.specs.Leader.{leaderStep}
+use Rattle.leader.specs.Leader.{stands, leaderStep}
 use Rattle.record.specs.Record.{zeroed}
 use Rattle.matching.specs.Reading.{isRM, setOf, rmStateOf, aStateOf}
 use Rattle.deliver.specs.Deliver.{deliverStep}
@@ -52,6 +53,8 @@ pub data Role : Type 0 where
 pub record Host : Type 0 where
   -- W, Q or an inbox
   pub table : List ℕ
+  -- a leader's bytes of the summary; of another role's host no call reads or changes them
+  pub summary : List ℕ
   -- its N: what it sent and what came to it
   pub network : List ℕ
 
@@ -68,24 +71,33 @@ pub data Happening : Type 0 where
   -- bytes come to the host
   delivery : (role : Role) (k : ℕ) (bytes : List ℕ) → Happening
   -- the host goes on with these tables
-  restart : (role : Role) (k : ℕ) (table network : List ℕ) → Happening
+  restart : (role : Role) (k : ℕ) (table summary network : List ℕ) → Happening
 
--- what the contracts of rm_call::step, acceptor_call::step and leader_call::step name
-abbrev pub roleStep : Role → Plan → List ℕ → List ℕ → List ℕ → Step
-roleStep rm = rmStep
-roleStep acceptor = acceptorStep
-roleStep leader = leaderStep
+-- what a happening at a host answers, and the host as it leaves it
+pub record Left : Type 0 where
+  pub answer : Outcome Sent
+  pub host : Host
 
--- what each happening does to its host: the answer and the two tables
-abbrev pub called : Plan → Role → Host → List ℕ → Step
-called p role h e = roleStep role p (h .table) (h .network) e
+abbrev pub leftBy : Step → List ℕ → Left
+leftBy r summary = record { answer = r .answer; host = record { table = r .table; summary = summary; network = r .network } }
 
-abbrev pub delivered : Plan → Host → List ℕ → Step
+-- the role's own call: what the contracts of rm_call::step, acceptor_call::step and leader_call::step name
+abbrev pub called : Plan → Role → Host → List ℕ → Left
+called p rm h e = leftBy (rmStep p (h .table) (h .network) e) (h .summary)
+called p acceptor h e = leftBy (acceptorStep p (h .table) (h .network) e) (h .summary)
+called p leader h e =
+    leftBy (leaderStep p (h .table) (h .summary) (h .network) e .step) (leaderStep p (h .table) (h .summary) (h .network) e .summary)
+
+-- a delivery is lent N alone
+abbrev pub delivered : Plan → Host → List ℕ → Left
 delivered p h bytes =
-    record { answer = deliverStep p (h .network) bytes .answer; table = h .table; network = deliverStep p (h .network) bytes .network }
+    record {
+      answer = deliverStep p (h .network) bytes .answer;
+      host = record { table = h .table; summary = h .summary; network = deliverStep p (h .network) bytes .network };
+    }
 
-abbrev pub restarted : List ℕ → List ℕ → Step
-restarted table network = record { answer = accepted Quiet; table = table; network = network }
+abbrev pub restarted : List ℕ → List ℕ → List ℕ → Left
+restarted table summary network = record { answer = accepted Quiet; host = record { table = table; summary = summary; network = network } }
 
 -- the message of an outcome, as a list
 abbrev pub only : Outcome Wire.Message → List Wire.Message
@@ -98,8 +110,8 @@ sentAs (accepted (Slot slot)) ms = only (messageAt ms slot)
 sentAs (accepted Quiet) ms = []
 sentAs (refused number) ms = []
 
-abbrev pub sentBy : Plan → Step → List Wire.Message
-sentBy p r = sentAs (r .answer) (messages p (r .network))
+abbrev pub sentBy : Plan → Left → List Wire.Message
+sentBy p r = sentAs (r .answer) (messages p (r .host .network))
 
 -- host k of a role has new tables
 abbrev pub putHost : (Role → ℕ → Host) → Role → ℕ → Host → Role → ℕ → Host
@@ -114,20 +126,20 @@ putHost f leader k h acceptor j = f acceptor j
 putHost f leader k h leader j = except (f leader) k h j
 
 -- the system after it: the host's tables, and what was sent put on the wire
-abbrev pub after : System → Role → ℕ → Step → List Wire.Message → System
-after s role k r sent = record { hosts = putHost (s .hosts) role k (record { table = r .table; network = r .network }); wire = sent ++ s .wire }
+abbrev pub after : System → Role → ℕ → Left → List Wire.Message → System
+after s role k r sent = record { hosts = putHost (s .hosts) role k (r .host); wire = sent ++ s .wire }
 
 pub record Made : Type 0 where
   pub answer : Outcome Sent
   pub system : System
 
-abbrev pub stepped : System → Role → ℕ → Step → List Wire.Message → Made
+abbrev pub stepped : System → Role → ℕ → Left → List Wire.Message → Made
 stepped s role k r sent = record { answer = r .answer; system = after s role k r sent }
 
 abbrev pub made : Plan → System → Happening → Made
 made p s (call role k e) = stepped s role k (called p role (s .hosts role k) e) (sentBy p (called p role (s .hosts role k) e))
 made p s (delivery role k bytes) = stepped s role k (delivered p (s .hosts role k) bytes) []
-made p s (restart role k table network) = stepped s role k (restarted table network) []
+made p s (restart role k table summary network) = stepped s role k (restarted table summary network) []
 
 -- its own number: what host k of a role calls with is no event, or names k
 abbrev pub OwnNumber : Plan → ℕ → List ℕ → Type 0
@@ -145,11 +157,18 @@ Longer old table = (length old % slotSize ≡ 0) × ((n : ℕ) × (table ≡ old
 abbrev pub TableKept : Host → List ℕ → Type 0
 TableKept h table = (table ≡ h .table) ⊎ Longer (h .table) table
 
+-- no bit gained: what stands in the summary that a leader goes on with stood before; bits may be lost, also all of them
+abbrev pub SummaryKept : Role → Host → List ℕ → Type 0
+SummaryKept rm h summary = Unit {0}
+SummaryKept acceptor h summary = Unit {0}
+SummaryKept leader h summary = (i v : ℕ) → stands summary i v ≡ true → stands (h .summary) i v ≡ true
+
 -- all that is asked; bytes that read as no message are genuine, and N may be lost, older, of another length, or another host's
 abbrev pub Genuine : Plan → System → Happening → Type 0
 Genuine p s (call role k e) = OwnNumber p k e
 Genuine p s (delivery role k bytes) = NotForged s (only (readMessage p bytes))
-Genuine p s (restart role k table network) = TableKept (s .hosts role k) table × NotForged s (messages p network)
+Genuine p s (restart role k table summary network) =
+    TableKept (s .hosts role k) table × SummaryKept role (s .hosts role k) summary × NotForged s (messages p network)
 
 -- the row of weight states: byte i of the W of weight i
 abbrev pub row : System → ℕ → ℕ
@@ -162,13 +181,19 @@ published p s = record { rmState = row s; aState = λ i a. aStateOf p (s .hosts 
 -- every table of every host is zeros, of any length, and nothing was sent
 abbrev pub Fresh : System → Type 0
 Fresh s =
-    ((role : Role) (k : ℕ) → (s .hosts role k .table ≡ zeroed (s .hosts role k .table)) × (s .hosts role k .network ≡ zeroed (s .hosts role k .network)))
+    ((role : Role) (k : ℕ)
+    → (s .hosts role k .table ≡ zeroed (s .hosts role k .table))
+    × (s .hosts role k .summary ≡ zeroed (s .hosts role k .summary))
+    × (s .hosts role k .network ≡ zeroed (s .hosts role k .network)))
     × (s .wire ≡ [])
 
--- such a system, by the lengths of the roles' tables and of the N
-abbrev pub zeroHosts : (Role → ℕ → ℕ) → (Role → ℕ → ℕ) → System
-zeroHosts tables networks =
-    record { hosts = λ role k. record { table = replicate (tables role k) 0; network = replicate (networks role k) 0 }; wire = [] }
+-- such a system, by the lengths of the roles' tables, of the summaries and of the N
+abbrev pub zeroHosts : (Role → ℕ → ℕ) → (Role → ℕ → ℕ) → (Role → ℕ → ℕ) → System
+zeroHosts tables summaries networks =
+    record {
+      hosts = λ role k. record { table = replicate (tables role k) 0; summary = replicate (summaries role k) 0; network = replicate (networks role k) 0 };
+      wire = [];
+    }
 
 -- the system as the last happening left it
 abbrev pub systemAfter : Plan → System → List Happening → System

@@ -7,6 +7,7 @@
 --     network-not-forged-needed     weight 1 goes on with an N that has it
 --     states-kept-needed            weight 0 has sent its 2a and goes on with a W of zeros
 --     votes-kept-needed             the acceptor has voted and goes on with a Q of zeros
+--     summary-kept-needed           the leader has received nothing and goes on with a summary in which prepared stands for both weights
 -- Assumes nothing.
 use Prim.Native.Nat.{ℕ}
 use mathlib.Core.Bool.{true}
@@ -31,9 +32,11 @@ use Rattle.rm.specs.Rm.{areStates, rmJudged, rmChoose, rmReceiveDecision, rmRec
 use Rattle.votes.specs.Votes.{isVoteState, areVotes}
 use Rattle.acceptor.specs.Acceptor.{voteAt, voteOf, phase1b, phase2b, acceptorJudged, acceptorReceive, acceptorVerdict, acceptorStep}
 use Rattle.quorum.specs.Quorum.{countAcceptors, isMajority, isQuorum}
+use Rattle.quorum.specs.Mask.{hasBit, insertBit}
 use Rattle.inbox.specs.Inbox.{any, is1b, is2a, is2b, higher, reportOf, highestReport, proposal, chosen, isChosen2b, decided, forAll, forSome}
+use Rattle.summary.specs.Summary.{marked}
 use Rattle.leader.specs.Leader.{owns, leaderJudged, receiptStore, receipt, phase1a, phase2aMessage, keepOwn, sendBoth, phase2a, sendOnly, decideSend}
-use Rattle.leader.specs.Leader.{leaderKind, leaderVerdictBy, leaderStepBy}
+use Rattle.leader.specs.Leader.{leaderKind, leaderVerdictBy, isSummary, stands, leaderStep}
 use Rattle.deliver.specs.Deliver.{deliverJudged, deliverStep}
 use Rattle.apart.specs.Hosts.{Role, rm, acceptor, leader, System, Happening, call, delivery, restart, NotForged, TableKept, Genuine, row}
 use Rattle.apart.specs.Hosts.{zeroHosts, systemAfter, AllGenuine}
@@ -49,13 +52,18 @@ tables rm k = 2
 tables acceptor k = 6
 tables leader k = 40
 
+abbrev summaries : Role → ℕ → ℕ
+summaries rm k = 0
+summaries acceptor k = 0
+summaries leader k = 2
+
 abbrev networks : Role → ℕ → ℕ
 networks rm k = 24
 networks acceptor k = 48
 networks leader k = 64
 
 abbrev pub fresh : System
-fresh = zeroHosts tables networks
+fresh = zeroHosts tables summaries networks
 
 -- the system that a list leaves
 abbrev pub end : List Happening → System
@@ -132,9 +140,16 @@ afterLostVotes =
     ∷ act rm 0 2 0 1
     ∷ []
 
+-- the leader's inbox and N are as they were
+abbrev pub gainedBits : Happening
+gainedBits = restart leader 0 (replicate 40 0) (1 ∷ 1 ∷ []) (replicate 64 0)
+
+abbrev pub afterGainedBits : List Happening
+afterGainedBits = act leader 0 7 0 0 ∷ delivery rm 1 (0x30 ∷ 1 ∷ 1 ∷ 2 ∷ []) ∷ act rm 1 2 0 1 ∷ []
+
 pub only-one-fails : (before : List Happening) (one : Happening) (rest : List Happening) → Broken before one rest → Genuine order (end before) one → ⊥
 only-one-fails before one rest b genuine =
-    hosts-consistent order fresh (zeros-fresh tables networks) (before ++ (one ∷ rest))
+    hosts-consistent order fresh (zeros-fresh tables summaries networks) (before ++ (one ∷ rest))
     (genuine-around order fresh before one rest (b .genuine-before) genuine (b .genuine-rest)) 1 0 (omega arith) (omega arith) (b .committed) (b .aborted)
 
 -- `Broken` as tests that compute
@@ -157,26 +172,32 @@ broken before one rest (start, later, three, two) =
 computed :
     Computed [] foreignNumber afterForeignNumber
     × Computed undecided forgedCommit (act rm 1 2 0 1 ∷ [])
-    × Computed undecided (restart rm 1 (0 ∷ 1 ∷ []) forgedNetwork) (act rm 1 2 0 0 ∷ [])
-    × Computed (act rm 0 0 0 0 ∷ []) (restart rm 0 (0 ∷ 0 ∷ []) keptNetwork) afterLostStates
-    × Computed beforeLostVotes (restart acceptor 0 (replicate 6 0) (replicate 48 0)) afterLostVotes
+    × Computed undecided (restart rm 1 (0 ∷ 1 ∷ []) [] forgedNetwork) (act rm 1 2 0 0 ∷ [])
+    × Computed (act rm 0 0 0 0 ∷ []) (restart rm 0 (0 ∷ 0 ∷ []) [] keptNetwork) afterLostStates
+    × Computed beforeLostVotes (restart acceptor 0 (replicate 6 0) [] (replicate 48 0)) afterLostVotes
+    × Computed undecided gainedBits afterGainedBits
     × (end undecided .hosts rm 1 .table ≡ 0 ∷ 1 ∷ [])
     × (areSent order (end (act rm 0 0 0 0 ∷ []) .wire) (messages order keptNetwork) ≡ true)
     × (areSent order (end beforeLostVotes .wire) (messages order (replicate 48 0)) ≡ true)
+    × (end undecided .hosts leader 0 .table ≡ replicate 40 0)
+    × (areSent order (end undecided .wire) (messages order (replicate 64 0)) ≡ true)
 unfolding readMessage andThen refuseIf isPlan isCount isValue isVote isInRange bytesOf bytesOf1b messageLength slotOf mapLength isKnown ones
     fieldsMessage decode hasOrder all isTableLength slotsUpTo slots isZero readSlot readTable allUnused isOrdered isTable usedMessages
     messages sameBytes storeAt sameMessage placeFrom placeIn messageAt sending slotNumber whoLimit areZero areArguments isEvent
     areStates rmJudged rmChoose rmReceiveDecision rmReceive rmKind rmVerdict rmStep voteAt
     isVoteState areVotes acceptorJudged voteOf phase1b phase2b acceptorReceive acceptorVerdict acceptorStep countAcceptors isMajority
     isQuorum any is1b is2a is2b higher reportOf highestReport proposal chosen isChosen2b decided forAll forSome owns leaderJudged
-    receiptStore receipt phase1a phase2aMessage keepOwn sendBoth phase2a sendOnly decideSend leaderKind leaderVerdictBy leaderStepBy
-    deliverJudged deliverStep
+    receiptStore receipt phase1a phase2aMessage keepOwn sendBoth phase2a sendOnly decideSend leaderKind leaderVerdictBy
+    hasBit insertBit marked isSummary stands leaderStep deliverJudged deliverStep
 computed = (
   (refl, refl, refl, refl),
   (refl, refl, refl, refl),
   (refl, refl, refl, refl),
   (refl, refl, refl, refl),
   (refl, refl, refl, refl),
+  (refl, refl, refl, refl),
+  refl,
+  refl,
   refl,
   refl,
   refl,
@@ -189,21 +210,31 @@ pub not-forged-needed : Broken undecided forgedCommit (act rm 1 2 0 1 ∷ [])
 not-forged-needed = broken undecided forgedCommit (act rm 1 2 0 1 ∷ []) (computed .1)
 
 -- its own table is kept
-pub network-not-forged-needed : Broken undecided (restart rm 1 (0 ∷ 1 ∷ []) forgedNetwork) (act rm 1 2 0 0 ∷ [])
+pub network-not-forged-needed : Broken undecided (restart rm 1 (0 ∷ 1 ∷ []) [] forgedNetwork) (act rm 1 2 0 0 ∷ [])
     × TableKept (end undecided .hosts rm 1) (0 ∷ 1 ∷ [])
-network-not-forged-needed = (broken undecided (restart rm 1 (0 ∷ 1 ∷ []) forgedNetwork) (act rm 1 2 0 0 ∷ []) (computed .2), inl (sym (computed .5)))
+network-not-forged-needed = (broken undecided (restart rm 1 (0 ∷ 1 ∷ []) [] forgedNetwork) (act rm 1 2 0 0 ∷ []) (computed .2), inl (sym (computed .6)))
 
 -- its N is not forged
-pub states-kept-needed : Broken (act rm 0 0 0 0 ∷ []) (restart rm 0 (0 ∷ 0 ∷ []) keptNetwork) afterLostStates
+pub states-kept-needed : Broken (act rm 0 0 0 0 ∷ []) (restart rm 0 (0 ∷ 0 ∷ []) [] keptNetwork) afterLostStates
     × NotForged (end (act rm 0 0 0 0 ∷ [])) (messages order keptNetwork)
 states-kept-needed = (
-  broken (act rm 0 0 0 0 ∷ []) (restart rm 0 (0 ∷ 0 ∷ []) keptNetwork) afterLostStates (computed .3),
-  sents-of-test order (end (act rm 0 0 0 0 ∷ [])) (messages order keptNetwork) (computed .6),
+  broken (act rm 0 0 0 0 ∷ []) (restart rm 0 (0 ∷ 0 ∷ []) [] keptNetwork) afterLostStates (computed .3),
+  sents-of-test order (end (act rm 0 0 0 0 ∷ [])) (messages order keptNetwork) (computed .7),
 )
 
-pub votes-kept-needed : Broken beforeLostVotes (restart acceptor 0 (replicate 6 0) (replicate 48 0)) afterLostVotes
+pub votes-kept-needed : Broken beforeLostVotes (restart acceptor 0 (replicate 6 0) [] (replicate 48 0)) afterLostVotes
     × NotForged (end beforeLostVotes) (messages order (replicate 48 0))
 votes-kept-needed = (
-  broken beforeLostVotes (restart acceptor 0 (replicate 6 0) (replicate 48 0)) afterLostVotes (computed .4),
-  sents-of-test order (end beforeLostVotes) (messages order (replicate 48 0)) (computed .7),
+  broken beforeLostVotes (restart acceptor 0 (replicate 6 0) [] (replicate 48 0)) afterLostVotes (computed .4),
+  sents-of-test order (end beforeLostVotes) (messages order (replicate 48 0)) (computed .8),
+)
+
+-- its inbox is kept, and its N is not forged
+pub summary-kept-needed : Broken undecided gainedBits afterGainedBits
+    × TableKept (end undecided .hosts leader 0) (replicate 40 0)
+    × NotForged (end undecided) (messages order (replicate 64 0))
+summary-kept-needed = (
+  broken undecided gainedBits afterGainedBits (computed .5),
+  inl (sym (computed .9)),
+  sents-of-test order (end undecided) (messages order (replicate 64 0)) (computed .10),
 )

@@ -1,5 +1,6 @@
 -- Demand 3 for hosts that are apart, each with an N of its own, and what else holds of them. Happenings are any, in any order, from fresh hosts; what
--- is asked of each is `Genuine` alone: its own number, messages not forged, its own table not lost. Needed.antt shows that each of these is needed.
+-- is asked of each is `Genuine` alone: its own number, messages not forged, its own table not lost, no bit of a leader's summary gained. Needed.antt
+-- shows that each of these is needed.
 --     hosts-safe              after each happening the three claims of demand 3 hold
 --     hosts-consistent        so none is committed beside one aborted where a list ends
 --     hosts-never-11          and no answer of a list is 11
@@ -9,7 +10,9 @@
 --     other-order-genuine     and so may the messages of other orders that travel on the same link
 --     lost-network, older-network, longer-network, longer-inbox     a host may go on with an N of zeros, with any host's N as it is or was, and with zeros after
 --                             its N; a leader with zeros after its inbox
+--     lost-summary, older-summary     a leader may go on with a summary of zeros, and with the one that a call found
 --     hosts-agree, leaders-agree      no instance chooses two values, by what was sent or by what two leaders have received
+--     summaries-decided       whatever stands in a leader's summary is decided by what it has received
 --     hosts-one-decision      Commit and Abort are never both sent
 --     hosts-chosen-2a, -2b    what a majority has voted for at a ballot is what every 2a and 2b there and at later ballots carries, ever after
 --     deliver-answers, deliver-keeps, deliver-sends     a delivery answers the lowest number that applies; a refused one changes no byte of N; an accepted one
@@ -20,7 +23,7 @@
 use Prim.Native.Nat.{ℕ, _%_, _≤_}
 use mathlib.Core.Bool.{Bool, true, false, false≢true}
 use mathlib.Core.List.{List, [], _∷_, _++_, List·Memᴰ, List·Memᴰ·head, List·Memᴰ·tail, List·Memᴰ·not-nil}
-use mathlib.Core.Logic.{inl, inr}
+use mathlib.Core.Logic.{_⊎_, inl, inr}
 use mathlib.Core.Path.{_≡_, refl, sym, _∙_}
 use native.Mathlib.Omega.{arith}
 use lib.ListN.{length, replicate}
@@ -42,7 +45,8 @@ use Rattle.tcommit.specs.RmState.{committed, aborted}
 use Rattle.paxos_commit.specs.PaxosCommit.{Val, Message, phase2a, phase2b, Commit, Abort, Decided}
 use Rattle.paxos_commit.specs.PaxosCommit.Laws.{decided-kept}
 use Rattle.paxos_commit.specs.PaxosCommit.Safety.Agreement.{consistent, chosen-2a, chosen-2b, one-chosen, never-both}
-use Rattle.matching.specs.Reading.{isRM, isAcceptor, isMajoritySet, setOf}
+use Rattle.leader.specs.Leader.{stands}
+use Rattle.matching.specs.Reading.{isRM, isAcceptor, isMajoritySet, valOf, setOf}
 use Rattle.matching.specs.Call.{Accepted, Sends}
 use Rattle.matching.specs.Theorems.{majorities-meet}
 use Rattle.safety.specs.Grounds.Zeros.{messages-zeros}
@@ -50,10 +54,12 @@ use Rattle.deliver.specs.Deliver.{deliverStep}
 use Rattle.deliver.specs.Deliver.Laws as Deliver
 use Rattle.apart.specs.Delivery.{deliverRows}
 use Rattle.apart.specs.Delivery.Ruled.{deliver-ruled, sends-of-delivery}
-use Rattle.apart.specs.Hosts.{Role, leader, System, Happening, call, delivery, restart, NotForged, Genuine, row, Fresh, systemAfter, answers}
-use Rattle.apart.specs.Hosts.{AllGenuine, Safe, AfterEach}
-use Rattle.apart.specs.Hosts.Tied.{Grounded}
-use Rattle.apart.specs.Hosts.Restart.{messages-longer}
+use Rattle.apart.specs.Hosts.{Role, leader, System, Happening, call, delivery, restart, called, made, NotForged, SummaryKept, Genuine, row, Fresh}
+use Rattle.apart.specs.Hosts.{systemAfter, answers, AllGenuine, Safe, AfterEach}
+use Rattle.apart.specs.Hosts.Moved.{new-host}
+use Rattle.apart.specs.Hosts.Tied.{Grounded, summary-same}
+use Rattle.apart.specs.Hosts.Restart.{messages-longer, zeros-stand}
+use Rattle.apart.specs.Hosts.Leader.{summary-grows}
 use Rattle.apart.specs.Hosts.Lists.{grounded-fresh, each-safe, grounded-after, genuine-start, no-11}
 use Rattle.apart.specs.Hosts.Lists as Lists
 
@@ -88,15 +94,27 @@ module _ (p : Plan) where
     pub not-event-genuine : (e : List ℕ) → isEvent p e ≡ false → Genuine p s (call role k e)
     not-event-genuine e is named = absurd (false≢true (sym is ∙ named))
 
-    pub lost-network : (n : ℕ) → Genuine p s (restart role k (s .hosts role k .table) (replicate n 0))
-    lost-network n = (inl refl, rw (messages-zeros p n) (λ x h. absurd (List·Memᴰ·not-nil h)))
+    pub lost-network : (n : ℕ) → Genuine p s (restart role k (s .hosts role k .table) (s .hosts role k .summary) (replicate n 0))
+    lost-network n = (inl refl, summary-same role (s .hosts role k) _ refl, rw (messages-zeros p n) (λ x h. absurd (List·Memᴰ·not-nil h)))
+
+  -- its bits are lost, or it stopped after a call before its summary was written
+  module _ (s : System) (l : ℕ) where
+    pub lost-summary : (n : ℕ) → SummaryKept leader (s .hosts leader l) (replicate n 0)
+    lost-summary n i v stood = absurd (zeros-stand n i v stood)
+
+    pub older-summary : (e : List ℕ) → SummaryKept leader (made p s (call leader l e) .system .hosts leader l) (s .hosts leader l .summary)
+    older-summary e i v stood = rw (new-host (s .hosts) leader l (called p leader (s .hosts leader l) e .host)) (summary-grows p (s .hosts leader l) e i v stood)
 
   -- after genuine happenings from fresh hosts
   module _ (s : System) (fresh : Fresh s) where
     pub older-network : (hs more : List Happening) → AllGenuine p s (hs ++ more) → (role q : Role) (k j : ℕ)
-        → Genuine p (systemAfter p s (hs ++ more)) (restart role k (systemAfter p s (hs ++ more) .hosts role k .table) (systemAfter p s hs .hosts q j .network))
-    older-network hs more ok role q k j =
-        (inl refl, λ m h. wire-kept s hs more m (grounded-after p s (grounded-fresh p s fresh) hs (genuine-start p s hs more ok) .tied .networks q j m h))
+        → Genuine p (systemAfter p s (hs ++ more))
+        (restart role k (systemAfter p s (hs ++ more) .hosts role k .table) (systemAfter p s (hs ++ more) .hosts role k .summary) (systemAfter p s hs .hosts q j .network))
+    older-network hs more ok role q k j = (
+      inl refl,
+      summary-same role (systemAfter p s (hs ++ more) .hosts role k) _ refl,
+      λ m h. wire-kept s hs more m (grounded-after p s (grounded-fresh p s fresh) hs (genuine-start p s hs more ok) .tied .networks q j m h),
+    )
 
     module _ (hs : List Happening) (ok : AllGenuine p s hs) where
       abbrev end : System
@@ -106,12 +124,16 @@ module _ (p : Plan) where
       g = grounded-after p s (grounded-fresh p s fresh) hs ok
 
       pub longer-network : (role : Role) (k n : ℕ) → length (end .hosts role k .network) % 8 ≡ 0
-          → Genuine p end (restart role k (end .hosts role k .table) (end .hosts role k .network ++ replicate n 0))
-      longer-network role k n whole = (inl refl, rw (messages-longer p n (end .hosts role k .network) whole) (g .tied .networks role k))
+          → Genuine p end (restart role k (end .hosts role k .table) (end .hosts role k .summary) (end .hosts role k .network ++ replicate n 0))
+      longer-network role k n whole = (
+        inl refl,
+        summary-same role (end .hosts role k) _ refl,
+        rw (messages-longer p n (end .hosts role k .network) whole) (g .tied .networks role k),
+      )
 
       pub longer-inbox : (l n : ℕ) → length (end .hosts leader l .table) % 8 ≡ 0
-          → Genuine p end (restart leader l (end .hosts leader l .table ++ replicate n 0) (end .hosts leader l .network))
-      longer-inbox l n whole = (inr (whole, (n, refl)), g .tied .networks leader l)
+          → Genuine p end (restart leader l (end .hosts leader l .table ++ replicate n 0) (end .hosts leader l .summary) (end .hosts leader l .network))
+      longer-inbox l n whole = (inr (whole, (n, refl)), (λ i v stood. stood), g .tied .networks leader l)
 
       pub hosts-consistent : (i j : ℕ) → isRM p i → isRM p j → row end i ≡ committed → row end j ≡ aborted → ⊥
       hosts-consistent i j q k is gone = consistent (g .inv) (majorities-meet p .1) j i k q gone is
@@ -132,6 +154,11 @@ module _ (p : Plan) where
               → Decided (isRM p) (isAcceptor p) (isMajoritySet p) (setOf (messages p (end .hosts leader l .table))) i v
               → Decided (isRM p) (isAcceptor p) (isMajoritySet p) (setOf (end .wire)) i v
           heard l = decided-kept (isRM p) (isAcceptor p) (isMajoritySet p) _ _ (g .tied .inboxes l)
+
+      -- 1 is prepared, 2 aborted
+      pub summaries-decided : (l i v : ℕ) → (v ≡ 1) ⊎ (v ≡ 2) → stands (end .hosts leader l .summary) i v ≡ true
+          → Decided (isRM p) (isAcceptor p) (isMajoritySet p) (setOf (messages p (end .hosts leader l .table))) i (valOf v)
+      summaries-decided = g .tied .standing
 
       pub hosts-one-decision : setOf (end .wire) Commit → setOf (end .wire) Abort → ⊥
       hosts-one-decision = never-both (g .inv) (majorities-meet p .1)

@@ -1,5 +1,6 @@
 -- What the definitions of Hosts.antt say, in the words and numbers of document 01: 0 working, 1 prepared, 2 committed, 3 aborted.
---     role-step-means, row-means, fresh-means     a role's own call; byte i of weight i's W; zeros
+--     called-means, left-by-means, row-means, fresh-means     a role's own call; byte i of weight i's W; zeros
+--     stands-means, summary-kept-means     a bit of the summary; which bits a leader may go on with
 --     call-means, delivery-means, restart-means        what each happening answers, and leaves its host
 --     call-others, delivery-others, restart-others     every other host keeps its tables
 --     call-sends, call-quiet, call-refused, delivery-sends, restart-sends     what is put on the wire
@@ -9,11 +10,12 @@
 --     hosts-safe-words        so it is after each happening of every list
 --     hosts-safe-each         so it is of every genuine happening after every list of genuine ones
 -- Assumes nothing.
-use Prim.Native.Nat.{ℕ, _%_, _<_}
+use Prim.Native.Nat.{ℕ, _/_, _%_, _<_}
 use mathlib.Core.Bool.{true}
 use mathlib.Core.List.{List, [], _∷_, _++_, List·Memᴰ, List·Memᴰ·head}
 use mathlib.Core.Logic.{_⊎_, inl, inr, ⊎-elim, _↔_}
 use mathlib.Core.Path.{_≡_, refl, sym, _∙_, ap}
+use lib.Dec.{eqb}
 use lib.ListN.{length, getD, replicate}
 use Rattle.message.specs.declared.Plan.{Plan}
 use Rattle.message.specs.declared.Message as Wire
@@ -22,20 +24,45 @@ use Rattle.message.specs.Codec.{readMessage}
 use Rattle.slots.specs.Table.{messages}
 use Rattle.slots.specs.Send.{messageAt}
 use Rattle.change.specs.declared.Sent.the-variants.{Slot, Quiet}
+use Rattle.change.specs.Change.{Step}
 use Rattle.event.specs.Event.{whoOf, isEvent}
 use Rattle.rm.specs.Rm.{rmStep}
 use Rattle.acceptor.specs.Acceptor.{acceptorStep}
-use Rattle.leader.specs.Leader.{leaderStep}
+use Rattle.summary.specs.Summary.Laws.{stands-prepared, stands-aborted}
+use Rattle.leader.specs.Leader.{stands, leaderStep}
 use Rattle.record.specs.Record.{zeroed}
 use Rattle.deliver.specs.Deliver.{deliverStep}
-use Rattle.apart.specs.Hosts.{Role, rm, acceptor, leader, Host, System, Happening, call, delivery, restart, roleStep, Made, made, Genuine, row}
-use Rattle.apart.specs.Hosts.{Fresh, systemAfter, answers, AllGenuine, Safe, AfterEach}
+use Rattle.apart.specs.Hosts.{Role, rm, acceptor, leader, Host, System, Happening, call, delivery, restart, leftBy, called, Made, made, SummaryKept}
+use Rattle.apart.specs.Hosts.{Genuine, row, Fresh, systemAfter, answers, AllGenuine, Safe, AfterEach}
 use Rattle.apart.specs.Hosts.Lists as Lists
 use Rattle.apart.specs.Hosts.Moved as Moved
 use Rattle.apart.specs.Theorems.{hosts-safe}
 
-pub role-step-means : (roleStep rm ≡ rmStep) × (roleStep acceptor ≡ acceptorStep) × (roleStep leader ≡ leaderStep)
-role-step-means = (refl, refl, refl)
+pub called-means : (p : Plan) (h : Host) (e : List ℕ)
+    → (called p rm h e ≡ leftBy (rmStep p (h .table) (h .network) e) (h .summary))
+    × (called p acceptor h e ≡ leftBy (acceptorStep p (h .table) (h .network) e) (h .summary))
+    × (called p leader h e
+    ≡ leftBy (leaderStep p (h .table) (h .summary) (h .network) e .step) (leaderStep p (h .table) (h .summary) (h .network) e .summary))
+called-means p h e = (refl, refl, refl)
+
+pub left-by-means : (r : Step) (summary : List ℕ)
+    → (leftBy r summary .answer ≡ r .answer)
+    × (leftBy r summary .host .table ≡ r .table)
+    × (leftBy r summary .host .summary ≡ summary)
+    × (leftBy r summary .host .network ≡ r .network)
+left-by-means r summary = (refl, refl, refl, refl)
+
+-- of byte i, bit 0 for prepared, which is 1, and bit 1 for aborted, which is 2
+pub stands-means : (summary : List ℕ) (i : ℕ)
+    → (stands summary i 1 ≡ eqb (getD summary i 0 % 2) 1) × (stands summary i 2 ≡ eqb (getD summary i 0 / 2 % 2) 1)
+stands-means summary i = (stands-prepared summary i, stands-aborted summary i)
+
+-- nothing is asked of a host that is no leader's
+pub summary-kept-means : (h : Host) (summary : List ℕ)
+    → SummaryKept rm h summary
+    × SummaryKept acceptor h summary
+    × (SummaryKept leader h summary ↔ ((i v : ℕ) → stands summary i v ≡ true → stands (h .summary) i v ≡ true))
+summary-kept-means h summary = (tt, tt, (λ k. k, λ k. k))
 
 pub row-means : (s : System) (i : ℕ) → row s i ≡ getD (s .hosts rm i .table) i 0
 row-means s i = refl
@@ -43,7 +70,9 @@ row-means s i = refl
 pub fresh-means : (s : System)
     → Fresh s
     ↔ (((role : Role) (k : ℕ)
-    → (s .hosts role k .table ≡ replicate (length (s .hosts role k .table)) 0) × (s .hosts role k .network ≡ replicate (length (s .hosts role k .network)) 0))
+    → (s .hosts role k .table ≡ replicate (length (s .hosts role k .table)) 0)
+    × (s .hosts role k .summary ≡ replicate (length (s .hosts role k .summary)) 0)
+    × (s .hosts role k .network ≡ replicate (length (s .hosts role k .network)) 0))
     × (s .wire ≡ []))
 unfolding zeroed
 fresh-means s = (λ h. h, λ h. h)
@@ -58,22 +87,26 @@ module _ (p : Plan) (s : System) (role : Role) (k : ℕ) where
   left h = made p s h .system .hosts role k
 
   pub call-means : (e : List ℕ)
-      → (made p s (call role k e) .answer ≡ roleStep role p (host .table) (host .network) e .answer)
-      × (left (call role k e) .table ≡ roleStep role p (host .table) (host .network) e .table)
-      × (left (call role k e) .network ≡ roleStep role p (host .table) (host .network) e .network)
-  call-means e = let new = Moved.new-host (s .hosts) role k _ in (refl, ap (λ (h : Host). h .table) new, ap (λ (h : Host). h .network) new)
+      → (made p s (call role k e) .answer ≡ called p role host e .answer) × (left (call role k e) ≡ called p role host e .host)
+  call-means e = (refl, Moved.new-host (s .hosts) role k _)
 
   pub delivery-means : (bytes : List ℕ)
       → (made p s (delivery role k bytes) .answer ≡ deliverStep p (host .network) bytes .answer)
       × (left (delivery role k bytes) .table ≡ host .table)
+      × (left (delivery role k bytes) .summary ≡ host .summary)
       × (left (delivery role k bytes) .network ≡ deliverStep p (host .network) bytes .network)
-  delivery-means bytes = let new = Moved.new-host (s .hosts) role k _ in (refl, ap (λ (h : Host). h .table) new, ap (λ (h : Host). h .network) new)
+  delivery-means bytes =
+      let new = Moved.new-host (s .hosts) role k _ in
+      (refl, ap (λ (h : Host). h .table) new, ap (λ (h : Host). h .summary) new, ap (λ (h : Host). h .network) new)
 
-  pub restart-means : (table network : List ℕ)
-      → (made p s (restart role k table network) .answer ≡ accepted Quiet)
-      × (left (restart role k table network) .table ≡ table)
-      × (left (restart role k table network) .network ≡ network)
-  restart-means table network = let new = Moved.new-host (s .hosts) role k _ in (refl, ap (λ (h : Host). h .table) new, ap (λ (h : Host). h .network) new)
+  pub restart-means : (table summary network : List ℕ)
+      → (made p s (restart role k table summary network) .answer ≡ accepted Quiet)
+      × (left (restart role k table summary network) .table ≡ table)
+      × (left (restart role k table summary network) .summary ≡ summary)
+      × (left (restart role k table summary network) .network ≡ network)
+  restart-means table summary network =
+      let new = Moved.new-host (s .hosts) role k _ in
+      (refl, ap (λ (h : Host). h .table) new, ap (λ (h : Host). h .summary) new, ap (λ (h : Host). h .network) new)
 
   -- the other hosts, of another role or another number
   module _ (q : Role) (j : ℕ) (other : q ≡ role → j ≡ k → ⊥) where
@@ -83,8 +116,8 @@ module _ (p : Plan) (s : System) (role : Role) (k : ℕ) where
     pub delivery-others : (bytes : List ℕ) → made p s (delivery role k bytes) .system .hosts q j ≡ s .hosts q j
     delivery-others bytes = Moved.old-host (s .hosts) role k _ q j other
 
-    pub restart-others : (table network : List ℕ) → made p s (restart role k table network) .system .hosts q j ≡ s .hosts q j
-    restart-others table network = Moved.old-host (s .hosts) role k _ q j other
+    pub restart-others : (table summary network : List ℕ) → made p s (restart role k table summary network) .system .hosts q j ≡ s .hosts q j
+    restart-others table summary network = Moved.old-host (s .hosts) role k _ q j other
 
   -- what was sent
   module _ (e : List ℕ) where
@@ -95,20 +128,20 @@ module _ (p : Plan) (s : System) (role : Role) (k : ℕ) where
     pub call-sends : (slot : ℕ) (m : Wire.Message) → r .answer ≡ accepted (Slot slot)
         → messageAt (messages p (r .system .hosts role k .network)) slot ≡ accepted m → r .system .wire ≡ m ∷ s .wire
     call-sends slot m is stands =
-        Moved.wire-slot p s role k (roleStep role p (host .table) (host .network) e) slot m is
-        (sym (ap (λ (n : List ℕ). messageAt (messages p n) slot) (call-means e .2)) ∙ stands)
+        Moved.wire-slot p s role k (called p role host e) slot m is
+        (sym (ap (λ (h : Host). messageAt (messages p (h .network)) slot) (call-means e .1)) ∙ stands)
 
     pub call-quiet : r .answer ≡ accepted Quiet → r .system .wire ≡ s .wire
-    call-quiet is = Moved.wire-quiet p s role k (roleStep role p (host .table) (host .network) e) is
+    call-quiet is = Moved.wire-quiet p s role k (called p role host e) is
 
     pub call-refused : (number : ℕ) → r .answer ≡ refused number → r .system .wire ≡ s .wire
-    call-refused number is = Moved.wire-refused p s role k (roleStep role p (host .table) (host .network) e) number is
+    call-refused number is = Moved.wire-refused p s role k (called p role host e) number is
 
   pub delivery-sends : (bytes : List ℕ) → made p s (delivery role k bytes) .system .wire ≡ s .wire
   delivery-sends bytes = refl
 
-  pub restart-sends : (table network : List ℕ) → made p s (restart role k table network) .system .wire ≡ s .wire
-  restart-sends table network = refl
+  pub restart-sends : (table summary network : List ℕ) → made p s (restart role k table summary network) .system .wire ≡ s .wire
+  restart-sends table summary network = refl
 
   -- what is asked
   pub genuine-call : (e : List ℕ) → Genuine p s (call role k e) ↔ (isEvent p e ≡ true → whoOf e ≡ k)
@@ -121,11 +154,12 @@ module _ (p : Plan) (s : System) (role : Role) (k : ℕ) where
     λ h m there. h m (Moved.only-is (readMessage p bytes) m there),
   )
 
-  pub genuine-restart : (table network : List ℕ)
-      → Genuine p s (restart role k table network)
+  pub genuine-restart : (table summary network : List ℕ)
+      → Genuine p s (restart role k table summary network)
       ↔ (((table ≡ host .table) ⊎ ((length (host .table) % 8 ≡ 0) × ((n : ℕ) × (table ≡ host .table ++ replicate n 0))))
+      × SummaryKept role host summary
       × ((m : Wire.Message) → List·Memᴰ m (messages p network) → List·Memᴰ m (s .wire)))
-  genuine-restart table network = (λ h. h, λ h. h)
+  genuine-restart table summary network = (λ h. h, λ h. h)
 
 -- lists
 module _ (p : Plan) (s : System) where

@@ -2,7 +2,8 @@
 --     Running                               after i events: the answers so far and the single calls from here on are those from the start
 --     running-start, running-next, running-end
 --     event-within                          the next event lies within the list
---     run-stopped, run-cut, run-finished    the judgement refuses; no list; the events were run
+--     run-stopped, run-cut, run-unsound     the judgement refuses; no list; no summary
+--     run-judged, run-finished              all are sound; the events were run
 -- Assumes nothing.
 use Prim.Native.Nat.{ℕ, _+_, _-_, _*_, _≤_, _<_}
 use mathlib.Core.Bool.{true, false}
@@ -16,7 +17,11 @@ use lib.ListN.{length, set, take, drop, length-set, drop-of-length-le}
 use lib.Seq.{take-suc-set, take-all, append-snoc}
 use Rattle.message.specs.declared.Plan.{Plan}
 use Rattle.message.specs.Outcome.{accepted, refused, andThen, refuseIf, numberOf}
-use Rattle.record.specs.Record.{Tables, RecordStep, recordJudged, recordStep}
+use Rattle.opening.specs.Opening.{four}
+use Rattle.judging.specs.Judging.Four.{judged-four}
+use Rattle.record.specs.Record.{Tables, RecordStep, recordJudged, lentJudged, recordStep}
+use Rattle.record.specs.Record.Summary.{lent-judged}
+use Rattle.leader.specs.Leader.{isSummary}
 use Rattle.record.specs.Record.Applied.{recordApplied}
 use Rattle.record.proofs.Stepping.{step-applied}
 use Rattle.conformance.specs.Theorems.{record-sound}
@@ -37,12 +42,12 @@ rest p events t i = singleCalls p t (eventsOf (drop (i * 4) events))
 pub record Running (p : Plan) (t₀ : Tables) (events : List ℕ) (t : Tables) (answers : List ℕ) (i : ℕ) : Type 0 where
   pub within : i ≤ length answers
   pub whole : length events ≡ 4 * length answers
-  pub judged : recordJudged p t ≡ accepted tt
+  pub judged : lentJudged p t ≡ accepted tt
   pub tables : tablesLeft t (rest p events t i) ≡ finishedRun p t₀ events .tables
   pub answered : take i answers ++ numbersOf (rest p events t i) ≡ finishedRun p t₀ events .answers
 
 module _ (p : Plan) (t₀ : Tables) (events : List ℕ) where
-  pub running-start : (answers : List ℕ) → recordJudged p t₀ ≡ accepted tt → isList events answers ≡ true → Running p t₀ events t₀ answers 0
+  pub running-start : (answers : List ℕ) → lentJudged p t₀ ≡ accepted tt → isList events answers ≡ true → Running p t₀ events t₀ answers 0
   unfolding finishedRun
   running-start answers ok is =
       record { within = omega arith; whole = is-list events answers is; judged = ok; tables = refl; answered = refl }
@@ -78,14 +83,29 @@ module _ (p : Plan) (t₀ : Tables) (events : List ℕ) where
 
 -- the whole call
 module _ (p : Plan) (t : Tables) (events answers : List ℕ) where
-  pub run-stopped : (k : ℕ) → refused k ≡ recordJudged p t → record { answer = refused k; tables = t; answers = answers } ≡ recordRun p t events answers
-  run-stopped k h = sym (run-bad p t events answers k (sym h))
+  pub run-stopped : (k : ℕ) → refused k ≡ recordJudged p (four t) → record { answer = refused k; tables = t; answers = answers } ≡ recordRun p t events answers
+  run-stopped k h = sym (run-bad p t events answers k (sym (h ∙ judged-four p t)))
 
-  module _ (ok : accepted tt ≡ recordJudged p t) where
+  module _ (of-four : accepted tt ≡ recordJudged p (four t)) where
+    ok : accepted tt ≡ recordJudged p t
+    ok = of-four ∙ judged-four p t
+
     pub run-cut : isList events answers ≡ false → record { answer = refused 19; tables = t; answers = answers } ≡ recordRun p t events answers
     unfolding recordRun runJudged andThen refuseIf
     run-cut cut = rw (← ok, cut)
 
-    pub run-finished : isList events answers ≡ true → (r : Run) → r ≡ finishedRun p t events → r ≡ recordRun p t events answers
-    unfolding recordRun runJudged andThen refuseIf
-    run-finished is r done = rw (← ok, is) done
+    module _ (is : isList events answers ≡ true) (count : ℕ) (of-count : count ≡ p .rms * p .leaders) where
+      pub run-unsound : isSummary count (t .summary) ≡ false → record { answer = refused 20; tables = t; answers = answers } ≡ recordRun p t events answers
+      unfolding recordRun runJudged andThen refuseIf
+      run-unsound bad = let none : isSummary (p .rms * p .leaders) (t .summary) ≡ false = rw (← of-count) bad in rw (← ok, is, none)
+
+      module _ (right : isSummary count (t .summary) ≡ true) where
+        whole : isSummary (p .rms * p .leaders) (t .summary) ≡ true
+        whole = rw (← of-count) right
+
+        pub run-judged : lentJudged p t ≡ accepted tt
+        run-judged = lent-judged p t (sym ok) whole
+
+        pub run-finished : (r : Run) → r ≡ finishedRun p t events → r ≡ recordRun p t events answers
+        unfolding recordRun runJudged andThen refuseIf
+        run-finished r done = rw (← ok, is, whole) done

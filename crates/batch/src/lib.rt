@@ -1,14 +1,14 @@
-// A list of events on one record (document 02, Paper 2): the tables are judged once, then the events run in order.
+// A list of events on one record (document 02, Papers 2 and 5): the tables are judged once, then the events run in order.
 //
 //     is_list        row 19 of "Refusals by place"
 //     run_events     the events one after the other, on a record that was judged
 //     run            the list call
 //
-// It is lent W (`states`), Q (`votes`), N (`network`), I (`inboxes`) and the answers, one byte an event, of any content and length.
+// It is lent W (`states`), Q (`votes`), N (`network`), I (`inboxes`), the summary and the answers, one byte an event, of any content and length.
 ghost use mathlib.Core.Bool.{true};
 ghost use mathlib.Core.Path.{_≡_};
 ghost use Rattle.message.specs.Outcome.{accepted};
-ghost use Rattle.record.specs.Record.{tablesOf, recordJudged};
+ghost use Rattle.record.specs.Record.{tablesOf, lentJudged};
 ghost use Rattle.batch.specs.Run.{isList, runOf, finishedRun, recordRun};
 use change::Judged;
 use event::EVENT_SIZE;
@@ -28,25 +28,26 @@ fn run_events(
     votes: &mut [u8],
     network: &mut [u8],
     inboxes: &mut [u8],
+    summary: &mut [u8],
     events: &[u8],
     answers: &mut [u8],
 )
-    requires { ⌜ (recordJudged plan (tablesOf (now states) (now votes) (now network) (now inboxes)) ≡ accepted tt) × (isList (now events) (now answers) ≡ true) ⌝ }
-    ensures { λ _. ⌜ runOf Judged.Sound (tablesOf (now (states .exit)) (now (votes .exit)) (now (network .exit)) (now (inboxes .exit))) (now (answers .exit)) ≡
-        finishedRun plan (tablesOf (now (states .entry)) (now (votes .entry)) (now (network .entry)) (now (inboxes .entry))) (now (events .entry)) ⌝ }
+    requires { ⌜ (lentJudged plan (tablesOf (now states) (now votes) (now network) (now inboxes) (now summary)) ≡ accepted tt) × (isList (now events) (now answers) ≡ true) ⌝ }
+    ensures { λ _. ⌜ runOf Judged.Sound (tablesOf (now (states .exit)) (now (votes .exit)) (now (network .exit)) (now (inboxes .exit)) (now (summary .exit))) (now (answers .exit)) ≡
+        finishedRun plan (tablesOf (now (states .entry)) (now (votes .entry)) (now (network .entry)) (now (inboxes .entry)) (now (summary .entry))) (now (events .entry)) ⌝ }
 {
     let mut i = 0;
     while i < answers.len() {
         let from = i * EVENT_SIZE;
         let to = from + EVENT_SIZE;
         let event = &events[from..to];
-        let answer = record::perform(plan, states, votes, network, inboxes, event);
+        let answer = record::perform(plan, states, votes, network, inboxes, summary, event);
         answers[i] = change::answer_number(answer);
         i += 1;
     }
 }
 
-// The list call: 1 to 6 for the plan and the tables, then 19, and no byte changes; else each event's answer in its place, 0 or its refusal,
+// The list call: 1 to 6 for the plan and the tables, then 19, then 20 for the summary, and no byte changes; else each event's answer in its place, 0 or its refusal,
 // and the tables as the last event left them.
 pub fn run(
     plan: Plan,
@@ -54,11 +55,12 @@ pub fn run(
     votes: &mut [u8],
     network: &mut [u8],
     inboxes: &mut [u8],
+    summary: &mut [u8],
     events: &[u8],
     answers: &mut [u8],
 ) -> Judged
-    ensures { λ r. ⌜ runOf r (tablesOf (now (states .exit)) (now (votes .exit)) (now (network .exit)) (now (inboxes .exit))) (now (answers .exit)) ≡
-        recordRun plan (tablesOf (now (states .entry)) (now (votes .entry)) (now (network .entry)) (now (inboxes .entry))) (now (events .entry)) (now (answers .entry)) ⌝ }
+    ensures { λ r. ⌜ runOf r (tablesOf (now (states .exit)) (now (votes .exit)) (now (network .exit)) (now (inboxes .exit)) (now (summary .exit))) (now (answers .exit)) ≡
+        recordRun plan (tablesOf (now (states .entry)) (now (votes .entry)) (now (network .entry)) (now (inboxes .entry)) (now (summary .entry))) (now (events .entry)) (now (answers .entry)) ⌝ }
 {
     let judged = judging::judge(plan, states, votes, network, inboxes);
     match judged {
@@ -67,7 +69,19 @@ pub fn run(
             if !is_list(events, answers) {
                 return Judged::Refused(19);
             }
-            run_events(plan, states, votes, network, inboxes, events, answers);
+            if !summary::is_summary(summary, plan.rms as usize * plan.leaders as usize) {
+                return Judged::Refused(20);
+            }
+            run_events(
+                plan,
+                states,
+                votes,
+                network,
+                inboxes,
+                summary,
+                events,
+                answers,
+            );
             Judged::Sound
         }
     }

@@ -1,10 +1,10 @@
 // Makes calls of the reader, the writer and the three role steps, and prints a line for each (document 01, "Message bytes", "The nine
-// events", "Refusals by place").
+// events", "Refusals by place"; document 02, Paper 5).
 //
 // The calls stand in the file stdin beside src/. tests/vectors.py chooses them and says how call and line are written; tests/model.py
-// works out from document 01 alone what each answers and stores. Those lines are the file stdout, and the check compares the two.
+// works out from documents 01 and 02 alone what each answers and stores. Those lines are the file stdout, and the check compares the two.
 //
-//     Head, head_of                   which call, the plan, and the lengths of its three parts
+//     Head, head_of                   which call, the plan, and the lengths of its four parts
 //     say_read, say_write             what the reader and the writer answer
 //     run_step, say_sent, say_answer, say_step  what a role's step answers and stores
 //     run_call, run_parts, read_call  a call read into buffers, made on their parts, and its line
@@ -21,12 +21,13 @@ use message::Vote;
 
 const MAX_CALLS: usize = 65536;
 
-// Which call (0 resource manager, 1 acceptor, 2 leader, 3 reader, 4 writer), the plan, and the lengths of the role's table, of the network
-// and of the bytes: an event, the reader's slice, or the writer's message.
+// Which call (0 resource manager, 1 acceptor, 2 leader, 3 reader, 4 writer), the plan, and the lengths of the role's table, of the summary,
+// which only a leader has, of the network and of the bytes: an event, the reader's slice, or the writer's message.
 struct Head {
     call: u8,
     plan: Plan,
     table: usize,
+    summary: usize,
     network: usize,
     bytes: usize,
 }
@@ -36,7 +37,7 @@ fn length_of(high: u8, low: u8) -> usize {
     256 * (high as usize) + (low as usize)
 }
 
-fn head_of(b: &[u8; 12]) -> Head {
+fn head_of(b: &[u8; 14]) -> Head {
     let plan = Plan {
         rms: b[1],
         acceptors: b[2],
@@ -47,8 +48,9 @@ fn head_of(b: &[u8; 12]) -> Head {
         call: b[0],
         plan,
         table: length_of(b[6], b[7]),
-        network: length_of(b[8], b[9]),
-        bytes: length_of(b[10], b[11]),
+        summary: length_of(b[8], b[9]),
+        network: length_of(b[10], b[11]),
+        bytes: length_of(b[12], b[13]),
     }
 }
 
@@ -177,12 +179,19 @@ fn say_write(plan: Plan, m: Message) {
     say_number(written.len as u64);
 }
 
-// The step of the role; any number above 1 is a leader's.
-fn run_step(role: u8, plan: Plan, table: &mut [u8], network: &mut [u8], event: &[u8]) -> Answer {
+// The step of the role; any number above 1 is a leader's, which alone is lent the summary.
+fn run_step(
+    role: u8,
+    plan: Plan,
+    table: &mut [u8],
+    summary: &mut [u8],
+    network: &mut [u8],
+    event: &[u8],
+) -> Answer {
     match role {
         0 => rm_call::step(plan, table, network, event),
         1 => acceptor_call::step(plan, table, network, event),
-        _ => leader_call::step(plan, table, network, event),
+        _ => leader_call::step(plan, table, summary, network, event),
     }
 }
 
@@ -239,32 +248,59 @@ fn say_table(table: &[u8], old: &[u8]) {
     say(b"]");
 }
 
-// Makes the step and prints the answer and both tables.
-fn say_step(role: u8, plan: Plan, table: &mut [u8], network: &mut [u8], event: &[u8]) {
+// Makes the step and prints the answer and the three tables.
+fn say_step(
+    role: u8,
+    plan: Plan,
+    table: &mut [u8],
+    summary: &mut [u8],
+    network: &mut [u8],
+    event: &[u8],
+) {
     let mut old_table = io::large_buffer();
+    let mut old_summary = io::buffer();
     let mut old_network = io::large_buffer();
     copy_bytes(table, &mut old_table);
+    copy_bytes(summary, &mut old_summary);
     copy_bytes(network, &mut old_network);
-    say_answer(run_step(role, plan, table, network, event));
+    say_answer(run_step(role, plan, table, summary, network, event));
     say_table(table, &old_table);
+    say_table(summary, &old_summary);
     say_table(network, &old_network);
 }
 
-fn run_call(call: u8, plan: Plan, table: &mut [u8], network: &mut [u8], bytes: &[u8]) {
+fn run_call(
+    call: u8,
+    plan: Plan,
+    table: &mut [u8],
+    summary: &mut [u8],
+    network: &mut [u8],
+    bytes: &[u8],
+) {
     match call {
         3 => say_read(plan, bytes),
         4 => say_write(plan, raw_message(bytes)),
-        _ => say_step(call, plan, table, network, bytes),
+        _ => say_step(call, plan, table, summary, network, bytes),
     }
 }
 
 // Reads the call's parts into the first bytes of the buffers, and makes it on them. Where one is too long for a buffer, nothing
 // is printed.
-fn run_parts(head: Head, tables: &mut [u8], networks: &mut [u8], buffer: &mut [u8]) {
+fn run_parts(
+    head: Head,
+    tables: &mut [u8],
+    summaries: &mut [u8],
+    networks: &mut [u8],
+    buffer: &mut [u8],
+) {
     let table_end = head.table;
+    let summary_end = head.summary;
     let network_end = head.network;
     let bytes_end = head.bytes;
     if tables.len() < table_end {
+        return;
+    }
+    if summaries.len() < summary_end {
         return;
     }
     if networks.len() < network_end {
@@ -274,27 +310,36 @@ fn run_parts(head: Head, tables: &mut [u8], networks: &mut [u8], buffer: &mut [u
         return;
     }
     let table = &mut tables[..table_end];
+    let summary = &mut summaries[..summary_end];
     let network = &mut networks[..network_end];
     let bytes = &mut buffer[..bytes_end];
     io::read_full(STDIN_FILENO, table);
+    io::read_full(STDIN_FILENO, summary);
     io::read_full(STDIN_FILENO, network);
     io::read_full(STDIN_FILENO, bytes);
-    run_call(head.call, head.plan, table, network, bytes);
+    run_call(head.call, head.plan, table, summary, network, bytes);
 }
 
 fn read_call(head: Head) {
     let mut tables = io::large_buffer();
+    let mut summaries = io::buffer();
     let mut networks = io::large_buffer();
     let mut buffer = io::large_buffer();
-    run_parts(head, &mut tables, &mut networks, &mut buffer);
+    run_parts(
+        head,
+        &mut tables,
+        &mut summaries,
+        &mut networks,
+        &mut buffer,
+    );
     say(b"\n");
 }
 
 fn main() {
     let mut k: usize = 0;
     while k < MAX_CALLS {
-        let mut bytes = [0u8; 12];
-        if io::read_full(STDIN_FILENO, &mut bytes) < 12 {
+        let mut bytes = [0u8; 14];
+        if io::read_full(STDIN_FILENO, &mut bytes) < 14 {
             return;
         }
         read_call(head_of(&bytes));

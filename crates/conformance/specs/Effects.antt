@@ -3,14 +3,14 @@
 --     action-kinds      the action of each kind, in the module's words
 --     acted-action      an accepted call does its kind's action
 --     acted-members     the process, the instance and the ballot of an accepted call are those that the plan allows
---     copies-one        a receipt leaves one record
+--     copies-one, heard-exactly     a receipt leaves one record, and which
 -- That `Acted` leaves one record is `acted-one` of Theorems.antt. Assumes nothing.
 pub mod Laws
 use Prim.Native.Nat.{ℕ, _≤_, _<_}
 use mathlib.Core.Bool.{true}
 use mathlib.Core.List.{List}
 use mathlib.Core.Logic.{_⊎_, _↔_}
-use mathlib.Core.Path.{_≡_, refl, sym, _∙_, ap}
+use mathlib.Core.Path.{_≡_, refl, sym, _∙_, ap₂}
 use Rattle.message.specs.declared.Plan.{Plan}
 use Rattle.message.specs.declared.Message as Wire
 use Rattle.message.specs.declared.Message.the-variants.{Phase1a, Phase2a}
@@ -20,15 +20,18 @@ use Rattle.slots.specs.Table.{messages}
 use Rattle.slots.specs.Send.{messageAt}
 use Rattle.event.specs.Event.{kindOf, whoOf, highOf, lowOf, slotNumber}
 use Rattle.change.specs.declared.Sent.{Sent}
-use Rattle.leader.specs.Leader.{owns}
-use Rattle.record.specs.Record.{Tables, withInboxes, inboxOf, withInbox}
+use Rattle.inbox.specs.Inbox.{decided}
+use Rattle.summary.specs.Summary.{marked}
+use Rattle.leader.specs.Leader.{owns, stands}
+use Rattle.record.specs.Record.{Tables, withInboxes, withSummary, inboxOf, withInbox}
 use Rattle.paxos_commit.specs.PaxosCommit as Module
 use Rattle.paxos_commit.specs.PaxosCommit.{State, Message, Commit, Abort}
 use Rattle.matching.specs.Reading.{isRM, isAcceptor, isMajoritySet, valOf, messageOf, setOf, rmStateOf, aStateOf}
 use Rattle.matching.specs.Rm as Rm
 use Rattle.matching.specs.Acceptor as Acceptor
 use Rattle.matching.specs.Leader as Leader
-use Rattle.conformance.specs.Record.{recordState, ownInbox, Acted}
+use Rattle.matching.specs.Leader.Decided.{valueNumber}
+use Rattle.conformance.specs.Record.{recordState, ownInbox, heard, Acted}
 use Rattle.conformance.specs.Record.Determined.{stores-one}
 use Rattle.conformance.specs.Action.{Action, Copies}
 use Rattle.conformance.specs.Action.Laws.{action-acted}
@@ -60,10 +63,10 @@ module _ (p : Plan) (t : Tables) (e : List ℕ) where
         → Module.Phase2aFrom (isRM p) (isAcceptor p) (isMajoritySet p) (setOf (messages p (inboxOf p (t .inboxes) (whoOf e)))) (lowOf e) (highOf e) s s′)
         × (kindOf e ≡ 7
         → Module.DecideCommitWhere (isRM p) (isAcceptor p) (isMajoritySet p)
-        (Module.Decided (isRM p) (isAcceptor p) (isMajoritySet p) (setOf (messages p (inboxOf p (t .inboxes) (whoOf e))))) s s′)
+        (λ rm v. stands (inboxOf p (t .summary) (whoOf e)) rm (valueNumber v) ≡ true) s s′)
         × (kindOf e ≡ 8
         → Module.DecideAbortWhere (isRM p) (isAcceptor p) (isMajoritySet p)
-        (Module.Decided (isRM p) (isAcceptor p) (isMajoritySet p) (setOf (messages p (inboxOf p (t .inboxes) (whoOf e))))) s s′)
+        (λ rm v. stands (inboxOf p (t .summary) (whoOf e)) rm (valueNumber v) ≡ true) s s′)
     action-kinds a = (
       a .kind-0,
       a .kind-1,
@@ -90,4 +93,11 @@ module _ (p : Plan) (t : Tables) (e : List ℕ) where
   copies-one u v (m, held, taken, (box, h, is)) (n, holds, also, (case, k, was)) =
       let same : m ≡ n = accepted-inj (sym held ∙ holds) in
       let one = stores-one p (ownInbox p t e) n (rw same at h) k in
-      is ∙ ap (λ (b : List ℕ). withInboxes t (withInbox p (t .inboxes) (whoOf e) b)) one ∙ sym was
+      is ∙ ap₂ (heard p t e) same one ∙ sym was
+
+  -- the tables that it leaves: the leader's inbox, its bytes of the summary marked, and no other byte
+  pub heard-exactly : (m : Wire.Message) (inbox : List ℕ)
+      → heard p t e m inbox
+      ≡ withSummary (withInboxes t (withInbox p (t .inboxes) (whoOf e) inbox))
+      (withInbox p (t .summary) (whoOf e) (marked (decided p (messages p inbox)) (inboxOf p (t .summary) (whoOf e)) m))
+  heard-exactly m inbox = refl

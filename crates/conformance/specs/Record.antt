@@ -1,9 +1,13 @@
 -- What the match of the event call with module PaxosCommit speaks of. The theorems are in Theorems.antt, their proofs in Record/.
 --     recordState    the variables rmState, aState and msgs, as W, Q and N hold them
---     ownInbox       the inbox of the event's leader
---     tableRows, eventRows, recordRows     the rows of "Refusals by place" for the event call: of the plan and the tables, of the event, and all
---     SoundStates, SoundVotes, SoundInboxes, SoundOthers     the tables that a role's own call is not lent
+--     ownInbox, ownSummary, OwnStands     the inbox of the event's leader; its bytes of the summary, and what they say is Decided
+--     onOwn          a leader's own step as a step of the record
+--     tableRows, summaryRow, lentRows, eventRows, recordRows     the rows of "Refusals by place" for the event call: of the plan and the four tables,
+--                    the summary's, both, of the event, and all
+--     openRows       those of opening
+--     SoundStates, SoundVotes, SoundInboxes, SoundSummary, SoundOthers     the tables that a role's own call is not lent
 --     EventForm, inboxesUpTo     row 7 and the parts of I in document 01's words
+--     heard          the tables after a receipt
 --     Acted          what an accepted event call does: a case for each published action, and for the receipt
 -- The actions at a plan's constants, and each role's part of a row, are those of the crate matching. Assumes nothing.
 pub mod Ruled
@@ -37,8 +41,10 @@ use Rattle.paxos_commit.specs.PaxosCommit.{State, Val, Message, phase2a, Commit
 use Rattle.rm.specs.Rm.{areStates}
 use Rattle.votes.specs.Votes.{areVotes}
 use Rattle.acceptor.specs.Acceptor.{voteAt}
-use Rattle.leader.specs.Leader.{owns}
-use Rattle.record.specs.Record.{Tables, withStates, withVotes, withNetwork, withInboxes, inboxSize, inboxOf, withInbox}
+use Rattle.inbox.specs.Inbox.{decided}
+use Rattle.summary.specs.Summary.{marked}
+use Rattle.leader.specs.Leader.{owns, isSummary, stands, LeaderStep}
+use Rattle.record.specs.Record.{Tables, withStates, withVotes, withNetwork, withInboxes, withSummary, inboxSize, inboxOf, withInbox, summaryOf, RecordStep}
 use Rattle.matching.specs.Reading.{isRM, isAcceptor, valOf, messageOf, setOf, rmStateOf, aStateOf}
 use Rattle.matching.specs.Call.{SlotUnused, SlotHolds, Sends, Stores}
 use Rattle.matching.specs.Rm as Rm
@@ -46,7 +52,8 @@ use Rattle.matching.specs.Rm.{RMPrepare, RMChooseToAbort, RMRcvCommitMsg, RMRcv
 use Rattle.matching.specs.Acceptor as Acceptor
 use Rattle.matching.specs.Acceptor.{Phase1bAction, Phase2bAction, reportOf, InSlot}
 use Rattle.matching.specs.Leader as Leader
-use Rattle.matching.specs.Leader.{Phase1aAction, Phase2aAction, CommitAction, AbortAction, proposed, NotOwned}
+use Rattle.matching.specs.Leader.{Phase1aAction, Phase2aAction, CommitBy, AbortBy, proposed, NotOwned, WrongSummary}
+use Rattle.matching.specs.Leader.Decided.{DecidedBy}
 
 -- W as rmState, Q as aState, N as msgs
 abbrev pub recordState : Plan → Tables → State
@@ -55,6 +62,24 @@ recordState p t = record { rmState = rmStateOf (t .states); aState = aStateOf p 
 -- the inbox of leader `who`
 abbrev pub ownInbox : Plan → Tables → List ℕ → List ℕ
 ownInbox p t e = inboxOf p (t .inboxes) (whoOf e)
+
+-- its bytes of the summary
+abbrev pub ownSummary : Plan → Tables → List ℕ → List ℕ
+ownSummary p t e = summaryOf p t (whoOf e)
+
+-- what they say is Decided
+abbrev pub OwnStands : Plan → Tables → List ℕ → ℕ → Val → Type 0
+OwnStands p t e = DecidedBy (stands (ownSummary p t e))
+
+-- leader l's own step on its inbox, its bytes of the summary and N; everything else as it was
+abbrev pub onOwn : Plan → ℕ → Tables → LeaderStep → RecordStep
+onOwn p l t s =
+    record {
+      answer = s .step .answer;
+      tables =
+          withSummary (withNetwork (withInboxes t (withInbox p (t .inboxes) l (s .step .table))) (s .step .network))
+          (withInbox p (t .summary) l (s .summary));
+    }
 
 -- row 2: W not n bytes; Q not 3 × n × A; N not whole slots or over 1,024; I not L equal parts of whole slots or a part over 1,024
 abbrev pub WrongLengths : Plan → Tables → Type 0
@@ -72,12 +97,12 @@ NotTaken p t e =
     ⊎ (((kindOf e ≡ 3) × SlotHolds p (t .network) e (λ m. Acceptor.isTaken m ≡ false))
     ⊎ ((kindOf e ≡ 4) × SlotHolds p (t .network) e (λ m. Leader.isReceived m ≡ false)))
 
--- row 12: the published action is not enabled; a leader's conditions are read from its own inbox
+-- row 12: the published action is not enabled; a leader reads Phase2a's conditions from its own inbox, and Decided from its bytes of the summary
 abbrev pub Disabled : Plan → Tables → List ℕ → Type 1
 Disabled p t e =
     Either (Rm.Disabled p e (recordState p t))
     (Either ((kindOf e ≡ 3) × Acceptor.Disabled p (t .network) e (recordState p t))
-    (Leader.Disabled p (ownInbox p t e) e (recordState p t)))
+    (Leader.DisabledBy p (OwnStands p t e) (ownInbox p t e) e (recordState p t)))
 
 -- row 13
 abbrev pub Full : Plan → Tables → List ℕ → Type 0
@@ -97,6 +122,17 @@ tableRows p t rest =
     (row 6 ((l : ℕ) × (l < p .leaders) × (isTable p (inboxOf p (t .inboxes) l) ≡ false))
     rest)))))
 
+-- with row 20 after them: all that is lent
+abbrev pub summaryRow : Plan → Tables → Rows → Rows
+summaryRow p t rest = row 20 (WrongSummary (p .rms * p .leaders) (t .summary)) rest
+
+abbrev pub lentRows : Plan → Tables → Rows → Rows
+lentRows p t rest = tableRows p t (summaryRow p t rest)
+
+-- opening, which asks for the summary's length alone
+abbrev pub openRows : Plan → Tables → Rows
+openRows p t = row 1 (isPlan p ≡ false) (row 2 (WrongLengths p t) (row 20 (length (t .summary) ≡ p .rms * p .leaders → ⊥) end))
+
 -- the event, and the rows of all nine kinds
 abbrev pub eventRows : Plan → Tables → List ℕ → Rows
 eventRows p t e =
@@ -112,7 +148,7 @@ eventRows p t e =
 
 -- the event call
 abbrev pub recordRows : Plan → Tables → List ℕ → Rows
-recordRows p t e = tableRows p t (eventRows p t e)
+recordRows p t e = lentRows p t (eventRows p t e)
 
 -- row 7: who is a resource manager, an acceptor or a leader; kinds 0, 1, 7 and 8 have zeros, 5 and 6 an instance and any ballot
 abbrev pub EventForm : Plan → ℕ → ℕ → ℕ → ℕ → Type 0
@@ -144,13 +180,26 @@ SoundInboxes p t =
     × (isTableLength (inboxSize p (t .inboxes)) ≡ true)
     × ((l : ℕ) → l < p .leaders → isTable p (inboxOf p (t .inboxes) l) ≡ true)
 
--- I is L equal parts, and the inboxes of the other leaders are tables
+-- the summary is as row 20 asks
+abbrev pub SoundSummary : Plan → Tables → Type 0
+SoundSummary p t = isSummary (p .rms * p .leaders) (t .summary) ≡ true
+
+-- I is L equal parts, and the inboxes of the other leaders are tables; the summary has n × L bytes, and none of the other leaders' is above 3
 abbrev pub SoundOthers : Plan → Tables → ℕ → Type 0
 SoundOthers p t l =
-    (length (t .inboxes) % p .leaders ≡ 0) × ((k : ℕ) → k < p .leaders → (k ≡ l → ⊥) → isTable p (inboxOf p (t .inboxes) k) ≡ true)
+    (length (t .inboxes) % p .leaders ≡ 0)
+    × ((k : ℕ) → k < p .leaders → (k ≡ l → ⊥) → isTable p (inboxOf p (t .inboxes) k) ≡ true)
+    × (length (t .summary) ≡ p .rms * p .leaders)
+    × ((k : ℕ) → k < p .leaders → (k ≡ l → ⊥) → isSummary (p .rms) (summaryOf p t k) ≡ true)
+
+-- the tables after the event's leader received m: its inbox, and its bytes of the summary marked by what is Decided there
+abbrev pub heard : Plan → Tables → List ℕ → Wire.Message → List ℕ → Tables
+heard p t e m inbox =
+    withSummary (withInboxes t (withInbox p (t .inboxes) (whoOf e) inbox))
+    (withInbox p (t .summary) (whoOf e) (marked (decided p (messages p inbox)) (ownSummary p t e) m))
 
 -- an event call on the tables t that answers `answer` and leaves t′: the kind and who acts; the published action; the message that is sent and
--- the slot that is answered, or quiet; and the four tables
+-- the slot that is answered, or quiet; and all tables
 module _ (p : Plan) (t : Tables) (e : List ℕ) (answer : Outcome Sent) (t′ : Tables) where
   -- N gains m, and the answer is the first slot where it stands
   abbrev Sent-in-N : Wire.Message → Type 0
@@ -188,7 +237,7 @@ module _ (p : Plan) (t : Tables) (e : List ℕ) (answer : Outcome Sent) (t′ : 
         → t′ ≡ withNetwork (withVotes t (set (set (set (t .votes) (at ins) bal) (at ins + 1) bal) (at ins + 2) val)) (t′ .network) → Acted
     receives : kindOf e ≡ 4 → whoOf e < p .leaders → (m : Wire.Message) → InSlot p (t .network) e m → Leader.isReceived m ≡ true
         → answer ≡ accepted Quiet → (inbox : List ℕ) → Stores p (ownInbox p t e) m inbox
-        → t′ ≡ withInboxes t (withInbox p (t .inboxes) (whoOf e) inbox) → Acted
+        → t′ ≡ heard p t e m inbox → Acted
     opens-ballot : kindOf e ≡ 5 → whoOf e < p .leaders → isRM p (highOf e) → owns p (whoOf e) (lowOf e) ≡ true
         → Phase1aAction p (lowOf e) (highOf e) (recordState p t) (recordState p t′) → Sent-in-N (Phase1a (highOf e) (lowOf e))
         → t′ ≡ withNetwork t (t′ .network) → Acted
@@ -197,7 +246,7 @@ module _ (p : Plan) (t : Tables) (e : List ℕ) (answer : Outcome Sent) (t′ : 
         → phase2a (highOf e) (lowOf e) (valueOf acts) ≡ messageOf (proposed p (ownInbox p t e) e) → Sent-in-N (proposed p (ownInbox p t e) e)
         → (inbox : List ℕ) → Stores p (ownInbox p t e) (proposed p (ownInbox p t e) e) inbox
         → t′ ≡ withNetwork (withInboxes t (withInbox p (t .inboxes) (whoOf e) inbox)) (t′ .network) → Acted
-    commits : kindOf e ≡ 7 → whoOf e < p .leaders → CommitAction p seen (recordState p t) (recordState p t′) → Sent-in-N (Decision 1)
+    commits : kindOf e ≡ 7 → whoOf e < p .leaders → CommitBy p (OwnStands p t e) (recordState p t) (recordState p t′) → Sent-in-N (Decision 1)
         → t′ ≡ withNetwork t (t′ .network) → Acted
-    aborts : kindOf e ≡ 8 → whoOf e < p .leaders → AbortAction p seen (recordState p t) (recordState p t′) → Sent-in-N (Decision 2)
+    aborts : kindOf e ≡ 8 → whoOf e < p .leaders → AbortBy p (OwnStands p t e) (recordState p t) (recordState p t′) → Sent-in-N (Decision 2)
         → t′ ≡ withNetwork t (t′ .network) → Acted

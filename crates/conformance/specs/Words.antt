@@ -12,15 +12,18 @@
 --     range-words                   row 17: what is in range, of each of the six messages
 --     majority-rule                 a majority is a set of acceptors with 2 × size > A
 --     inboxes-joined, inboxes-up-to, inbox-replaced     I is its L inboxes one after the other, each of one size; one is replaced without the others
---     sound-words                   the tables that a role's own call is not lent are as rows 2, 3, 4 and 6 ask
---     lowest-words                  what `Lowest` says of an answer
+--     sound-words                   the tables that a role's own call is not lent are as rows 2, 3, 4, 6 and 20 ask
+--     lowest-words, order-words, first-words     what `Lowest` and `InOrder` say of an answer; what the first row that applies is
+--     summary-words, stands-words, summary-place       row 20; the bits of a byte of the summary; where a leader's bytes lie
+--     marked-words, standing-words     what receiving a message does to the bits; the byte that an inbox says, in numbers
 --     tables-mean, replaced-mean, open-means, step-means, role-means, read-means     what the records and enums in the contracts stand for: nothing but their parts
 -- Assumes nothing.
-use Prim.Native.Nat.{ℕ, suc, _+_, _-_, _*_, _%_, _≤_, _<_}
-use mathlib.Core.Bool.{Bool, true}
+use Prim.Native.Nat.{ℕ, suc, _+_, _-_, _*_, _/_, _%_, _≤_, _<_}
+use mathlib.Core.Bool.{Bool, true, false, _&&_, _||_}
 use mathlib.Core.List.{List, [], _∷_, _++_}
 use mathlib.Core.Logic.{_⊎_, _↔_}
 use mathlib.Core.Path.{_≡_, refl}
+use lib.Dec.{eqb}
 use lib.ListN.{length, getD}
 use Rattle.message.specs.declared.Plan.{Plan}
 use Rattle.message.specs.declared.Message.{Message}
@@ -28,7 +31,7 @@ use Rattle.message.specs.declared.Message.the-variants.{Phase1a, Phase1b, Phase
 use Rattle.message.specs.declared.Vote.the-variants.{None, Cast}
 use Rattle.message.specs.declared.Read.the-variants as Reads
 use Rattle.message.specs.Outcome.{Outcome, accepted, refused}
-use Rattle.message.specs.Rows.{Rows, Applies, Lowest}
+use Rattle.message.specs.Rows.{Rows, end, guard, Either, Applies, First, InOrder, Lowest}
 use Rattle.message.specs.Codec.{readOutcome}
 use Rattle.message.specs.Plan.{isPlan}
 use Rattle.message.specs.Form.{isInRange}
@@ -42,12 +45,18 @@ use Rattle.quorum.specs.Quorum.{isQuorum, Distinct, AmongFirst}
 use Rattle.rm.specs.Rm.{areStates}
 use Rattle.votes.specs.Votes.{areVotes}
 use Rattle.acceptor.specs.Acceptor.{voteAt}
-use Rattle.leader.specs.Leader.{owns}
+use Rattle.inbox.specs.Inbox.{decided}
+use Rattle.summary.specs.Summary.{marked, standing}
+use Rattle.summary.specs.Summary.Laws.{summary-length, summary-bytes, is-summary, stands-prepared, stands-aborted, marked-bit, marked-none}
+use Rattle.summary.specs.Summary.Laws.{standing-0, standing-1, standing-2, standing-3}
+use Rattle.leader.specs.Leader.{owns, isSummary, stands}
 use Rattle.phase2a.specs.Phase2a.Laws.{owns-rule, owns-turns}
-use Rattle.record.specs.Record.{Tables, tablesOf, withStates, withVotes, withNetwork, withInboxes, inboxSize, inboxOf, withInbox, openingOf, recordStepOf}
+use Rattle.record.specs.Record.{Tables, tablesOf, withStates, withVotes, withNetwork, withInboxes, withSummary, inboxSize, inboxOf, withInbox, summaryOf}
+use Rattle.record.specs.Record.{openingOf, recordStepOf}
 use Rattle.record.specs.Record.Parts as Parts
+use Rattle.record.specs.Record.Summary.{summary-byte}
 use Rattle.matching.specs.Call.{HeldBy}
-use Rattle.conformance.specs.Record.{EventForm, inboxesUpTo, SoundStates, SoundVotes, SoundInboxes, SoundOthers}
+use Rattle.conformance.specs.Record.{EventForm, inboxesUpTo, SoundStates, SoundVotes, SoundInboxes, SoundSummary, SoundOthers}
 use Rattle.conformance.specs.Record.Words as Laws
 
 pub plan-range : (p : Plan)
@@ -120,18 +129,23 @@ pub vote-place : (p : Plan) (i a : ℕ) → voteAt p i a ≡ 3 * (i * p .accepto
 unfolding voteAt
 vote-place p i a = refl
 
--- the four tables in a contract are the four lists
-pub tables-mean : (w q n i : List ℕ)
-    → (tablesOf w q n i .states ≡ w) × (tablesOf w q n i .votes ≡ q) × (tablesOf w q n i .network ≡ n) × (tablesOf w q n i .inboxes ≡ i)
-tables-mean w q n i = (refl, refl, refl, refl)
+-- the five tables in a contract are the five lists
+pub tables-mean : (w q n i s : List ℕ)
+    → (tablesOf w q n i s .states ≡ w)
+    × (tablesOf w q n i s .votes ≡ q)
+    × (tablesOf w q n i s .network ≡ n)
+    × (tablesOf w q n i s .inboxes ≡ i)
+    × (tablesOf w q n i s .summary ≡ s)
+tables-mean w q n i s = (refl, refl, refl, refl, refl)
 
 -- one table replaced, and the others as they were
-pub replaced-mean : (w q n i x : List ℕ)
-    → (withStates (tablesOf w q n i) x ≡ tablesOf x q n i)
-    × (withVotes (tablesOf w q n i) x ≡ tablesOf w x n i)
-    × (withNetwork (tablesOf w q n i) x ≡ tablesOf w q x i)
-    × (withInboxes (tablesOf w q n i) x ≡ tablesOf w q n x)
-replaced-mean w q n i x = (refl, refl, refl, refl)
+pub replaced-mean : (w q n i s x : List ℕ)
+    → (withStates (tablesOf w q n i s) x ≡ tablesOf x q n i s)
+    × (withVotes (tablesOf w q n i s) x ≡ tablesOf w x n i s)
+    × (withNetwork (tablesOf w q n i s) x ≡ tablesOf w q x i s)
+    × (withInboxes (tablesOf w q n i s) x ≡ tablesOf w q n x s)
+    × (withSummary (tablesOf w q n i s) x ≡ tablesOf w q n i x)
+replaced-mean w q n i s x = (refl, refl, refl, refl, refl)
 
 -- an answer in a contract is the acceptance with its values, or the number, and the tables are as they are lent
 pub open-means : (k : ℕ) (t : Tables)
@@ -163,11 +177,54 @@ pub sound-words : (p : Plan) (t : Tables) (l : ℕ)
     × (SoundVotes p t ↔ ((length (t .votes) ≡ 3 * (p .rms * p .acceptors)) × (areVotes (t .votes) ≡ true)))
     × (SoundInboxes p t ↔ ((length (t .inboxes) % p .leaders ≡ 0) × (isTableLength (inboxSize p (t .inboxes)) ≡ true)
     × ((k : ℕ) → k < p .leaders → isTable p (inboxOf p (t .inboxes) k) ≡ true)))
+    × (SoundSummary p t ↔ (isSummary (p .rms * p .leaders) (t .summary) ≡ true))
     × (SoundOthers p t l ↔ ((length (t .inboxes) % p .leaders ≡ 0)
-    × ((k : ℕ) → k < p .leaders → (k ≡ l → ⊥) → isTable p (inboxOf p (t .inboxes) k) ≡ true)))
-sound-words p t l = ((λ h. h, λ h. h), (λ h. h, λ h. h), (λ h. h, λ h. h), (λ h. h, λ h. h))
+    × ((k : ℕ) → k < p .leaders → (k ≡ l → ⊥) → isTable p (inboxOf p (t .inboxes) k) ≡ true)
+    × (length (t .summary) ≡ p .rms * p .leaders)
+    × ((k : ℕ) → k < p .leaders → (k ≡ l → ⊥) → isSummary (p .rms) (summaryOf p t k) ≡ true)))
+sound-words p t l = ((λ h. h, λ h. h), (λ h. h, λ h. h), (λ h. h, λ h. h), (λ h. h, λ h. h), (λ h. h, λ h. h))
 
 pub lowest-words : {A : Type 0} (rows : Rows) (answer : Outcome A) → Lowest rows answer
     → ((k : ℕ) → (answer ≡ refused k) ↔ (Applies rows k × ((j : ℕ) → j < k → Applies rows j → ⊥)))
     × (((a : A) × (answer ≡ accepted a)) ↔ ((k : ℕ) → Applies rows k → ⊥))
 lowest-words rows answer h = (h .refuses, h .accepts)
+
+pub order-words : {A : Type 0} (rows : Rows) (answer : Outcome A) → InOrder rows answer
+    → ((k : ℕ) → (answer ≡ refused k) ↔ First rows k) × (((a : A) × (answer ≡ accepted a)) ↔ ((k : ℕ) → Applies rows k → ⊥))
+order-words rows answer h = (h .refuses, h .accepts)
+
+-- no row is the first of none; the first is the head where it applies, else the first of those after it
+pub first-words : (k number : ℕ) (applies : Type 1) (rest : Rows)
+    → (First end k ↔ (Unit {1} → ⊥)) × (First (guard number applies rest) k ↔ Either ((k ≡ number) × applies) ((applies → ⊥) × First rest k))
+first-words k number applies rest = ((λ h. h, λ h. h), (λ h. h, λ h. h))
+
+-- row 20
+pub summary-words : (count : ℕ) (s : List ℕ) → (isSummary count s ≡ true) ↔ ((length s ≡ count) × ((i : ℕ) → i < count → getD s i 0 ≤ 3))
+summary-words count s = (
+  λ right. (summary-length count s right, λ i below. summary-bytes count s right i),
+  λ (size, small). is-summary count s size small,
+)
+
+-- bit 0 is prepared's, bit 1 aborted's
+pub stands-words : (s : List ℕ) (i : ℕ) → (stands s i 1 ≡ eqb (getD s i 0 % 2) 1) × (stands s i 2 ≡ eqb (getD s i 0 / 2 % 2) 1)
+stands-words s i = (stands-prepared s i, stands-aborted s i)
+
+-- a 2b of (i, v) sets the bit of v in byte i where `isDecided i v`, and no other; another message sets none
+pub marked-words : (isDecided : ℕ → ℕ → Bool) (s : List ℕ)
+    → ((i a b v j w : ℕ) → i < length s → (v ≡ 1) ⊎ (v ≡ 2) → (w ≡ 1) ⊎ (w ≡ 2)
+    → stands (marked isDecided s (Phase2b i a b v)) j w ≡ (stands s j w || (eqb i j && (eqb v w && isDecided i v))))
+    × ((m : Message) → ((i a b v : ℕ) → m ≡ Phase2b i a b v → ⊥) → marked isDecided s m ≡ s)
+marked-words isDecided s = (λ i a b v j w. marked-bit isDecided s j w i a b v, marked-none isDecided s)
+
+-- 1 for prepared and 2 for aborted
+pub standing-words : (p : Plan) (seen : List Message) (i : ℕ)
+    → (decided p seen i 1 ≡ false → decided p seen i 2 ≡ false → standing p seen i ≡ 0)
+    × (decided p seen i 1 ≡ true → decided p seen i 2 ≡ false → standing p seen i ≡ 1)
+    × (decided p seen i 1 ≡ false → decided p seen i 2 ≡ true → standing p seen i ≡ 2)
+    × (decided p seen i 1 ≡ true → decided p seen i 2 ≡ true → standing p seen i ≡ 3)
+standing-words p seen i = (standing-0 p seen i, standing-1 p seen i, standing-2 p seen i, standing-3 p seen i)
+
+-- leader l's byte of instance i is byte l × n + i
+pub summary-place : (p : Plan) (t : Tables) → isPlan p ≡ true → length (t .summary) ≡ p .rms * p .leaders
+    → (l i : ℕ) → l < p .leaders → i < p .rms → getD (summaryOf p t l) i 0 ≡ getD (t .summary) (l * p .rms + i) 0
+summary-place p t plan whole l i member below = summary-byte p (t .summary) plan whole l member i below

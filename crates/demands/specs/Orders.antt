@@ -5,7 +5,7 @@
 --     other-order-record      where it stands in N row 5 of the event call applies, where it stands in an inbox row 6
 --     other-order-list        likewise of the list call
 --     other-order-roles       likewise of the roles' own calls
--- What applies is what is refused (`demand-1-lowest`). Opening and ending look at no message; the delivery is in apart/specs/Theorems.antt. The
+-- What applies is what is refused (`demand-1-first`). Opening and ending look at no message; the delivery is in apart/specs/Theorems.antt. The
 -- demands are for every plan, so for each order number. The proofs are in Orders/Laws.antt. Assumes nothing.
 pub mod Laws
 use Prim.Native.Nat.{ℕ, _<_}
@@ -26,7 +26,7 @@ use Rattle.paxos_commit.specs.PaxosCommit.{State}
 use Rattle.matching.specs.Rm.{rmRows}
 use Rattle.matching.specs.Acceptor.{acceptorRows}
 use Rattle.matching.specs.Leader.{leaderRows}
-use Rattle.conformance.specs.Record.{eventRows, recordRows}
+use Rattle.conformance.specs.Record.{summaryRow, eventRows, recordRows}
 use Rattle.batch.specs.Rows.{listRows, runRows}
 use Rattle.demands.specs.Orders.Laws.{slice-row, slice-number, network-row, inbox-row, rm-row, acceptor-row, leader-row, leader-inbox-row}
 
@@ -39,24 +39,27 @@ module _ (p q : Plan) (differs : p .order ≡ q .order → ⊥) (m : Message) (g
   pub other-order-record : (t : Tables) (e : List ℕ)
       → (List·Memᴰ (writeMessage q m .bytes) (slots (t .network)) → Applies (recordRows p t e) 5)
       × ((l : ℕ) → l < p .leaders → List·Memᴰ (writeMessage q m .bytes) (slots (inboxOf p (t .inboxes) l)) → Applies (recordRows p t e) 6)
-  other-order-record t e = (network-row p q differs m given t (eventRows p t e), inbox-row p q differs m given t (eventRows p t e))
+  other-order-record t e = (
+    network-row p q differs m given t (summaryRow p t (eventRows p t e)),
+    inbox-row p q differs m given t (summaryRow p t (eventRows p t e)),
+  )
 
   pub other-order-list : (t : Tables) (events answers : List ℕ)
       → (List·Memᴰ (writeMessage q m .bytes) (slots (t .network)) → Applies (runRows p t events answers) 5)
       × ((l : ℕ) → l < p .leaders → List·Memᴰ (writeMessage q m .bytes) (slots (inboxOf p (t .inboxes) l)) → Applies (runRows p t events answers) 6)
   other-order-list t events answers = (
-    network-row p q differs m given t (listRows events answers),
-    inbox-row p q differs m given t (listRows events answers),
+    network-row p q differs m given t (listRows p t events answers),
+    inbox-row p q differs m given t (listRows p t events answers),
   )
 
-  pub other-order-roles : (table network e : List ℕ) (s : State)
+  pub other-order-roles : (table summary network e : List ℕ) (s : State)
       → (List·Memᴰ (writeMessage q m .bytes) (slots network) → Applies (rmRows p table network e s) 5)
       × (List·Memᴰ (writeMessage q m .bytes) (slots network) → Applies (acceptorRows p table network e s) 5)
-      × (List·Memᴰ (writeMessage q m .bytes) (slots network) → Applies (leaderRows p table network e s) 5)
-      × (List·Memᴰ (writeMessage q m .bytes) (slots table) → Applies (leaderRows p table network e s) 6)
-  other-order-roles table network e s = (
+      × (List·Memᴰ (writeMessage q m .bytes) (slots network) → Applies (leaderRows p table summary network e s) 5)
+      × (List·Memᴰ (writeMessage q m .bytes) (slots table) → Applies (leaderRows p table summary network e s) 6)
+  other-order-roles table summary network e s = (
     rm-row p q differs m given table network e s,
     acceptor-row p q differs m given table network e s,
-    leader-row p q differs m given table network e s,
-    leader-inbox-row p q differs m given table network e s,
+    leader-row p q differs m given table summary network e s,
+    leader-inbox-row p q differs m given table summary network e s,
   )

@@ -2,12 +2,13 @@
 -- kind is accepted, and an order ends committed or aborted, so what is proved of accepted calls and of lists of calls is not proved of nothing.
 --     order, fresh          the plan and the fresh record
 --     committing, aborting, declining; committing-list, mixing     the lists of calls; the first as one list; lists among event calls
---     spread                three weights, three acceptors and two leaders
---     on, unused, atBallot  the answer of one event call on tables given byte by byte
+--     spread, heard         three weights, three acceptors and two leaders; two weights, one acceptor and two leaders
+--     on, onSummary, unused, atBallot     the answer of one event call on tables given byte by byte
 --     Computed, computed    what all of these come to, in numbers and bytes: each field is a theorem
---         orders-end            what the lists of calls answer, and W afterwards
+--         orders-end            what the lists of calls answer, and W and the summary afterwards
 --         lists-end, mixed-ends     the same of lists, and of those that are refused whole
---         places                where each call puts its bytes in the four tables
+--         places                where each call puts its bytes in the five tables
+--         summaries             which byte of the summary a receipt sets, and kinds 7 and 8, which read it alone
 --         order-examples        an old map, a bad field of another order, other orders by either byte, and a Commit of this order and of another
 --         owners                who owns which ballots, with two, three and four leaders
 --         refusals              each number of the event call
@@ -35,10 +36,12 @@ use Rattle.rm.specs.Rm.{areStates, rmJudged, rmChoose, rmReceiveDecision, rmRec
 use Rattle.votes.specs.Votes.{isVoteState, areVotes}
 use Rattle.acceptor.specs.Acceptor.{voteAt, voteOf, phase1b, phase2b, acceptorJudged, acceptorReceive, acceptorVerdict, acceptorStep}
 use Rattle.quorum.specs.Quorum.{countAcceptors, isMajority, isQuorum}
+use Rattle.quorum.specs.Mask.{hasBit, insertBit}
 use Rattle.inbox.specs.Inbox.{any, is1b, is2a, is2b, higher, reportOf, highestReport, proposal, chosen, isChosen2b, decided, forAll, forSome}
+use Rattle.summary.specs.Summary.{isSummary, stands, marked}
 use Rattle.leader.specs.Leader.{owns, leaderJudged, receiptStore, receipt, phase1a, phase2aMessage, keepOwn, sendBoth, phase2a, sendOnly, decideSend}
 use Rattle.leader.specs.Leader.{leaderKind, leaderVerdictBy, leaderStepBy}
-use Rattle.record.specs.Record.{Tables, tablesOf, inboxSize, inboxOf, withInbox, areLengths, areInboxes, recordJudged, roleStep, recordStep}
+use Rattle.record.specs.Record.{Tables, tablesOf, inboxSize, inboxOf, withInbox, areLengths, areInboxes, recordJudged, lentJudged, roleStep, recordStep}
 use Rattle.batch.specs.Run.{runJudged, finishedRun, recordRun}
 use Rattle.safety.specs.Lists.{Call, event, run, answers, tablesAfter}
 
@@ -46,7 +49,7 @@ abbrev pub order : Plan
 order = record { rms = 1; acceptors = 1; leaders = 1; order = 0x0102 }
 
 abbrev pub fresh : Tables
-fresh = tablesOf (replicate 1 0) (replicate 3 0) (replicate 48 0) (replicate 48 0)
+fresh = tablesOf (replicate 1 0) (replicate 3 0) (replicate 48 0) (replicate 48 0) (replicate 1 0)
 
 abbrev pub call : ℕ → ℕ → ℕ → Call
 call kind high low = event (kind ∷ 0 ∷ high ∷ low ∷ [])
@@ -88,18 +91,26 @@ mixing =
 abbrev pub spread : List Call
 spread = event (5 ∷ 1 ∷ 2 ∷ 2 ∷ []) ∷ event (3 ∷ 1 ∷ 0 ∷ 0 ∷ []) ∷ event (4 ∷ 1 ∷ 0 ∷ 1 ∷ []) ∷ event (0 ∷ 2 ∷ 0 ∷ 0 ∷ []) ∷ []
 
--- an event call on a record of one weight, one acceptor and one leader: its answer
+-- weight 1 prepares, the acceptor votes, leader 1 hears of it, and can't commit yet
+abbrev pub heard : List Call
+heard = event (0 ∷ 1 ∷ 0 ∷ 0 ∷ []) ∷ event (3 ∷ 0 ∷ 0 ∷ 0 ∷ []) ∷ event (4 ∷ 1 ∷ 0 ∷ 1 ∷ []) ∷ event (7 ∷ 1 ∷ 0 ∷ 0 ∷ []) ∷ []
+
+-- an event call on a record of one weight, one acceptor and one leader, with a zero summary: its answer
 abbrev pub on : List ℕ → List ℕ → List ℕ → List ℕ → List ℕ → Outcome Sent
-on w q n i e = recordStep order (tablesOf w q n i) e .answer
+on w q n i e = recordStep order (tablesOf w q n i (0 ∷ [])) e .answer
 
 -- one unused slot
 abbrev pub unused : List ℕ
 unused = 0 ∷ 0 ∷ 0 ∷ 0 ∷ 0 ∷ 0 ∷ 0 ∷ 0 ∷ []
 
+-- the same on a summary of any bytes, the weight working, nobody having voted, one unused slot in N, and any inbox
+abbrev pub onSummary : List ℕ → List ℕ → List ℕ → Outcome Sent
+onSummary i s e = recordStep order (tablesOf (0 ∷ []) (0 ∷ 0 ∷ 0 ∷ []) unused i s) e .answer
+
 -- what leader `who` of so many is answered for kind 5 or 6 at ballot b (document 02, Paper 4)
 abbrev pub atBallot : ℕ → ℕ → ℕ → ℕ → Outcome Sent
 atBallot leaders kind who b =
-    recordStep (record { rms = 1; acceptors = 1; leaders = leaders; order = 0x0102 }) (tablesOf (0 ∷ []) (0 ∷ 0 ∷ 0 ∷ []) unused [])
+    recordStep (record { rms = 1; acceptors = 1; leaders = leaders; order = 0x0102 }) (tablesOf (0 ∷ []) (0 ∷ 0 ∷ 0 ∷ []) unused [] (replicate leaders 0))
     (kind ∷ who ∷ 0 ∷ b ∷ []) .answer
 
 pub record Computed : Type 0 where
@@ -107,14 +118,16 @@ pub record Computed : Type 0 where
       (answers order fresh committing
       ≡ accepted (Slot 0) ∷ accepted (Slot 1) ∷ accepted Quiet ∷ accepted (Slot 2) ∷ accepted Quiet ∷ refused 12 ∷ [])
       × (tablesAfter order fresh committing .states ≡ 2 ∷ [])
+      × (tablesAfter order fresh committing .summary ≡ 1 ∷ [])
       × (answers order fresh aborting
       ≡ accepted (Slot 0) ∷ accepted (Slot 1) ∷ accepted Quiet ∷ accepted (Slot 2) ∷ accepted (Slot 3) ∷ accepted Quiet ∷ accepted (Slot 4)
       ∷ accepted Quiet ∷ [])
       × (tablesAfter order fresh aborting .states ≡ 3 ∷ [])
+      × (tablesAfter order fresh aborting .summary ≡ 2 ∷ [])
       × (answers order fresh declining ≡ accepted (Slot 0) ∷ [])
       × (tablesAfter order fresh declining .states ≡ 3 ∷ [])
   -- numbers and tables of a list. An event that is none and one that is refused end nothing; a list that is cut, and one with an answer too many or
-  -- too few, is refused whole with 19, and a bad plan or table before that
+  -- too few, is refused whole with 19, a bad plan or table before that, a bad summary after it
   pub lists-end :
       (recordRun order fresh committing-list (replicate 7 99) .answer ≡ accepted tt)
       × (recordRun order fresh committing-list (replicate 7 99) .answers ≡ 0 ∷ 0 ∷ 7 ∷ 0 ∷ 0 ∷ 0 ∷ 12 ∷ [])
@@ -125,7 +138,9 @@ pub record Computed : Type 0 where
       × (recordRun order fresh (0 ∷ 0 ∷ 0 ∷ 0 ∷ []) [] ≡ record { answer = refused 19; tables = fresh; answers = [] })
       × (recordRun order fresh (0 ∷ 0 ∷ 0 ∷ 0 ∷ []) (98 ∷ 99 ∷ []) ≡ record { answer = refused 19; tables = fresh; answers = 98 ∷ 99 ∷ [] })
       × (recordRun (record { rms = 0; acceptors = 1; leaders = 1; order = 0x0102 }) fresh (0 ∷ []) [] .answer ≡ refused 1)
-      × (recordRun order (tablesOf (4 ∷ []) (replicate 3 0) (replicate 48 0) (replicate 48 0)) (0 ∷ []) [] .answer ≡ refused 3)
+      × (recordRun order (tablesOf (4 ∷ []) (replicate 3 0) (replicate 48 0) (replicate 48 0) (4 ∷ [])) (0 ∷ []) [] .answer ≡ refused 3)
+      × (recordRun order (tablesOf (0 ∷ []) (replicate 3 0) (replicate 48 0) (replicate 48 0) (4 ∷ [])) (0 ∷ []) [] .answer ≡ refused 19)
+      × (recordRun order (tablesOf (0 ∷ []) (replicate 3 0) (replicate 48 0) (replicate 48 0) (4 ∷ [])) [] [] .answer ≡ refused 20)
   pub mixed-ends :
       (answers order fresh mixing
       ≡ accepted (Slot 0) ∷ accepted (Slot 1) ∷ refused 7 ∷ accepted Quiet ∷ accepted (Slot 2) ∷ accepted Quiet ∷ [])
@@ -133,11 +148,24 @@ pub record Computed : Type 0 where
   -- mbal of weight 2 and acceptor 1 is byte 3 × (2 × 3 + 1) of Q, and leader 1's inbox begins in the middle of I
   pub places :
       tablesAfter (record { rms = 3; acceptors = 3; leaders = 2; order = 0x0102 })
-      (tablesOf (replicate 3 0) (replicate 27 0) (replicate 32 0) (replicate 32 0)) spread
+      (tablesOf (replicate 3 0) (replicate 27 0) (replicate 32 0) (replicate 32 0) (replicate 6 0)) spread
       ≡ tablesOf (0 ∷ 0 ∷ 1 ∷ []) (replicate 21 0 ++ (2 ∷ replicate 5 0))
       ((0x29 ∷ 2 ∷ 2 ∷ 1 ∷ 2 ∷ 0 ∷ 0 ∷ 0 ∷ [])
       ++ ((0x27 ∷ 2 ∷ 1 ∷ 2 ∷ 1 ∷ 2 ∷ 0 ∷ 0 ∷ []) ++ ((0x39 ∷ 2 ∷ 0 ∷ 1 ∷ 1 ∷ 2 ∷ 0 ∷ 0 ∷ []) ++ replicate 8 0)))
       (replicate 16 0 ++ ((0x27 ∷ 2 ∷ 1 ∷ 2 ∷ 1 ∷ 2 ∷ 0 ∷ 0 ∷ []) ++ replicate 8 0))
+      (replicate 6 0)
+  -- leader 1's byte for weight 1 of two is byte 1 × 2 + 1 (document 02, Paper 5)
+  pub summaries :
+      (tablesAfter (record { rms = 2; acceptors = 1; leaders = 2; order = 0x0102 })
+      (tablesOf (replicate 2 0) (replicate 6 0) (replicate 16 0) (replicate 32 0) (replicate 4 0)) heard
+      .summary
+      ≡ 0 ∷ 0 ∷ 0 ∷ 1 ∷ [])
+      × (answers (record { rms = 2; acceptors = 1; leaders = 2; order = 0x0102 })
+      (tablesOf (replicate 2 0) (replicate 6 0) (replicate 16 0) (replicate 32 0) (replicate 4 0)) heard
+      ≡ accepted (Slot 0) ∷ accepted (Slot 1) ∷ accepted Quiet ∷ refused 12 ∷ [])
+      × (onSummary unused (1 ∷ []) (7 ∷ 0 ∷ 0 ∷ 0 ∷ []) ≡ accepted (Slot 0))
+      × (onSummary unused (2 ∷ []) (8 ∷ 0 ∷ 0 ∷ 0 ∷ []) ≡ accepted (Slot 0))
+      × (onSummary (0x3B ∷ 0 ∷ 0 ∷ 0 ∷ 1 ∷ 1 ∷ 2 ∷ 0 ∷ []) (2 ∷ []) (7 ∷ 0 ∷ 0 ∷ 0 ∷ []) ≡ refused 12)
   -- the order number is 0102 (document 02, Paper 1)
   pub order-examples : map (readMessage order)
       ((0x19 ∷ 0 ∷ 0 ∷ 1 ∷ [])
@@ -158,7 +186,7 @@ pub record Computed : Type 0 where
       × (map (atBallot 4 6 2) (0 ∷ 2 ∷ 3 ∷ 255 ∷ []) ≡ refused 10 ∷ refused 10 ∷ refused 12 ∷ refused 12 ∷ [])
   -- each row of "Refusals by place" for the event call, in bytes
   pub refusals :
-      (recordStep (record { rms = 0; acceptors = 1; leaders = 1; order = 0x0102 }) (tablesOf [] [] [] []) (0 ∷ 0 ∷ 0 ∷ 0 ∷ []) .answer ≡ refused 1)
+      (recordStep (record { rms = 0; acceptors = 1; leaders = 1; order = 0x0102 }) (tablesOf [] [] [] [] []) (0 ∷ 0 ∷ 0 ∷ 0 ∷ []) .answer ≡ refused 1)
       × (on (0 ∷ 0 ∷ []) (0 ∷ 0 ∷ 0 ∷ []) unused unused (0 ∷ 0 ∷ 0 ∷ 0 ∷ []) ≡ refused 2)
       × (on (4 ∷ []) (0 ∷ 0 ∷ 3 ∷ []) unused unused (0 ∷ 0 ∷ 0 ∷ 0 ∷ []) ≡ refused 3)
       × (on (0 ∷ []) (0 ∷ 0 ∷ 3 ∷ []) unused unused (0 ∷ 0 ∷ 0 ∷ 0 ∷ []) ≡ refused 4)
@@ -168,6 +196,10 @@ pub record Computed : Type 0 where
       × (on (0 ∷ []) (0 ∷ 0 ∷ 0 ∷ []) unused (0x30 ∷ 1 ∷ 1 ∷ 2 ∷ 1 ∷ 0 ∷ 0 ∷ 0 ∷ []) (0 ∷ 0 ∷ 0 ∷ 0 ∷ []) ≡ refused 6)
       × (on (0 ∷ []) (0 ∷ 0 ∷ 0 ∷ []) (0x30 ∷ 1 ∷ 1 ∷ 3 ∷ 0 ∷ 0 ∷ 0 ∷ 0 ∷ []) unused (2 ∷ 0 ∷ 0 ∷ 0 ∷ []) ≡ refused 5)
       × (on (0 ∷ []) (0 ∷ 0 ∷ 0 ∷ []) unused (0x30 ∷ 1 ∷ 3 ∷ 2 ∷ 0 ∷ 0 ∷ 0 ∷ 0 ∷ []) (0 ∷ 0 ∷ 0 ∷ 0 ∷ []) ≡ refused 6)
+      × (onSummary (0x30 ∷ 1 ∷ 3 ∷ 2 ∷ 0 ∷ 0 ∷ 0 ∷ 0 ∷ []) (4 ∷ []) (0 ∷ 0 ∷ 0 ∷ 0 ∷ []) ≡ refused 6)
+      × (onSummary unused (4 ∷ []) (9 ∷ 0 ∷ 0 ∷ 0 ∷ []) ≡ refused 20)
+      × (onSummary unused (0 ∷ 0 ∷ []) (9 ∷ 0 ∷ 0 ∷ 0 ∷ []) ≡ refused 20)
+      × (onSummary unused [] (0 ∷ 0 ∷ 0 ∷ 0 ∷ []) ≡ refused 20)
       × (on (0 ∷ []) (0 ∷ 0 ∷ 0 ∷ []) unused unused (0 ∷ 0 ∷ 0 ∷ 0 ∷ 0 ∷ []) ≡ refused 7)
       × (on (0 ∷ []) (0 ∷ 0 ∷ 0 ∷ []) unused unused (9 ∷ 0 ∷ 0 ∷ 0 ∷ []) ≡ refused 7)
       × (on (0 ∷ []) (0 ∷ 0 ∷ 0 ∷ []) unused unused (2 ∷ 0 ∷ 0 ∷ 0 ∷ []) ≡ refused 8)
@@ -189,16 +221,17 @@ unfolding readMessage andThen refuseIf isPlan isCount isValue isVote isInRange b
     messages sameBytes storeAt sameMessage placeFrom placeIn messageAt sending slotNumber whoLimit areZero areArguments isEvent areStates
     rmJudged rmChoose rmReceiveDecision rmReceive rmKind rmVerdict rmStep voteAt isVoteState areVotes acceptorJudged voteOf phase1b phase2b
     acceptorReceive acceptorVerdict acceptorStep countAcceptors isMajority isQuorum any is1b is2a is2b higher reportOf highestReport
-    proposal chosen isChosen2b decided forAll forSome owns leaderJudged receiptStore receipt phase1a phase2aMessage keepOwn sendBoth phase2a
-    sendOnly decideSend leaderKind leaderVerdictBy leaderStepBy inboxSize inboxOf withInbox areLengths areInboxes recordJudged roleStep
-    recordStep runJudged finishedRun recordRun
+    proposal chosen isChosen2b decided forAll forSome isSummary stands marked hasBit insertBit owns leaderJudged receiptStore receipt phase1a phase2aMessage keepOwn sendBoth phase2a
+    sendOnly decideSend leaderKind leaderVerdictBy leaderStepBy inboxSize inboxOf withInbox areLengths areInboxes recordJudged lentJudged
+    roleStep recordStep runJudged finishedRun recordRun
 computed =
     record {
-      orders-end = (refl, refl, refl, refl, refl, refl);
-      lists-end = (refl, refl, refl, refl, refl, refl, refl, refl, refl, refl);
+      orders-end = (refl, refl, refl, refl, refl, refl, refl, refl);
+      lists-end = (refl, refl, refl, refl, refl, refl, refl, refl, refl, refl, refl, refl);
       mixed-ends = (refl, refl);
       places = refl;
+      summaries = (refl, refl, refl, refl, refl);
       order-examples = refl;
       owners = (refl, refl, refl, refl, refl, refl);
-      refusals = (refl, refl, refl, refl, refl, refl, refl, refl, refl, refl, refl, refl, refl, refl, refl, refl, refl, refl, refl, refl, refl, refl, refl);
+      refusals = (refl, refl, refl, refl, refl, refl, refl, refl, refl, refl, refl, refl, refl, refl, refl, refl, refl, refl, refl, refl, refl, refl, refl, refl, refl, refl, refl);
     }

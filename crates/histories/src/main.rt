@@ -1,6 +1,6 @@
 // Makes stored histories on the record, each some event calls and list calls from an opened record or from given tables, and prints after
-// each call its answer and a digest of the four tables (document 01, "The plan and four tables", "The nine events", "Refusals by place";
-// document 02, Paper 2).
+// each call its answer and a digest of the five tables (document 01, "The plan and four tables", "The nine events", "Refusals by place";
+// document 02, Papers 2 and 5).
 //
 // The histories stand in the file stdin beside src/. tests/histories.py says how history and lines are written and chooses the events;
 // tests/model.py works out from documents 01 and 02 alone what each call answers and stores. Those lines are the file stdout, and the check
@@ -8,7 +8,7 @@
 //
 //     Head, head_of                   how a history begins, and its plan
 //     read_end, read_part             as many bytes of a buffer as the next number says
-//     fold, say_digest                every byte of W, Q, N and I, as one number below a prime
+//     fold, say_digest                every byte of W, Q, N, I and the summary, as one number below a prime
 //     say_table                       a table without the zeros at its end
 //     run_event                       an event call
 //     lent_answers, run_list          what a list call is lent for the answers, and the call
@@ -82,9 +82,10 @@ fn fold(bytes: &[u8], after: u32) -> u32 {
     sum
 }
 
-// The bytes of W, Q, N and I, one after the other, as one number modulo the prime, the lowest byte first.
-fn say_digest(states: &[u8], votes: &[u8], network: &[u8], inboxes: &[u8]) {
-    let sum = fold(states, fold(votes, fold(network, fold(inboxes, 0))));
+// The bytes of W, Q, N, I and the summary, one after the other, as one number modulo the prime, the lowest byte first.
+fn say_digest(states: &[u8], votes: &[u8], network: &[u8], inboxes: &[u8], summary: &[u8]) {
+    let last = fold(inboxes, fold(summary, 0));
+    let sum = fold(states, fold(votes, fold(network, last)));
     say(b" ");
     io::print_hex(STDOUT_FILENO, sum as u64, 8);
     say(b"\n");
@@ -149,7 +150,14 @@ fn say_table(table: &[u8]) {
     say(b"]\n");
 }
 
-fn say_tables(mode: u8, states: &[u8], votes: &[u8], network: &[u8], inboxes: &[u8]) {
+fn say_tables(
+    mode: u8,
+    states: &[u8],
+    votes: &[u8],
+    network: &[u8],
+    inboxes: &[u8],
+    summary: &[u8],
+) {
     if 4 <= mode {
         return;
     }
@@ -157,6 +165,7 @@ fn say_tables(mode: u8, states: &[u8], votes: &[u8], network: &[u8], inboxes: &[
     say_table(votes);
     say_table(network);
     say_table(inboxes);
+    say_table(summary);
 }
 
 // A number of two bytes, the higher first.
@@ -200,13 +209,14 @@ fn run_event(
     votes: &mut [u8],
     network: &mut [u8],
     inboxes: &mut [u8],
+    summary: &mut [u8],
     buffer: &mut [u8],
     size: u8,
 ) {
     let end = least(size as usize, buffer.len());
     let event = &mut buffer[..end];
     io::read_full(STDIN_FILENO, event);
-    let answer = record::step(plan, states, votes, network, inboxes, event);
+    let answer = record::step(plan, states, votes, network, inboxes, summary, event);
     say_answer(answer);
 }
 
@@ -232,6 +242,7 @@ fn run_list(
     votes: &mut [u8],
     network: &mut [u8],
     inboxes: &mut [u8],
+    summary: &mut [u8],
     buffer: &mut [u8],
     lent: &mut [u8],
 ) {
@@ -239,7 +250,16 @@ fn run_list(
     let answers = &mut lent[..room];
     let end = read_part(buffer);
     let events = &buffer[..end];
-    let judged = batch::run(plan, states, votes, network, inboxes, events, answers);
+    let judged = batch::run(
+        plan,
+        states,
+        votes,
+        network,
+        inboxes,
+        summary,
+        events,
+        answers,
+    );
     say_run(judged, answers);
 }
 
@@ -250,16 +270,35 @@ fn run_call(
     votes: &mut [u8],
     network: &mut [u8],
     inboxes: &mut [u8],
+    summary: &mut [u8],
     size: u8,
 ) {
     if size == LIST {
         let mut large = io::large_buffer();
         let mut lent = lent_answers();
-        run_list(plan, states, votes, network, inboxes, &mut large, &mut lent);
+        run_list(
+            plan,
+            states,
+            votes,
+            network,
+            inboxes,
+            summary,
+            &mut large,
+            &mut lent,
+        );
         return;
     }
     let mut buffer = io::buffer();
-    run_event(plan, states, votes, network, inboxes, &mut buffer, size);
+    run_event(
+        plan,
+        states,
+        votes,
+        network,
+        inboxes,
+        summary,
+        &mut buffer,
+        size,
+    );
 }
 
 fn byte_of(b: &[u8; 1]) -> u8 {
@@ -272,6 +311,7 @@ fn run_calls(
     votes: &mut [u8],
     network: &mut [u8],
     inboxes: &mut [u8],
+    summary: &mut [u8],
 ) {
     let count = read_number();
     let mut k: usize = 0;
@@ -280,8 +320,16 @@ fn run_calls(
         if io::read_full(STDIN_FILENO, &mut byte) < 1 {
             return;
         }
-        run_call(plan, states, votes, network, inboxes, byte_of(&byte));
-        say_digest(states, votes, network, inboxes);
+        run_call(
+            plan,
+            states,
+            votes,
+            network,
+            inboxes,
+            summary,
+            byte_of(&byte),
+        );
+        say_digest(states, votes, network, inboxes, summary);
         k += 1;
     }
 }
@@ -293,6 +341,7 @@ fn read_tables(
     votes: &mut [u8],
     network: &mut [u8],
     inboxes: &mut [u8],
+    summary: &mut [u8],
 ) {
     if mode % 4 == 0 {
         return;
@@ -301,6 +350,7 @@ fn read_tables(
     read_part(votes);
     read_part(network);
     read_part(inboxes);
+    read_part(summary);
 }
 
 // Opens the record, where the history says so.
@@ -311,13 +361,14 @@ fn run_open(
     votes: &mut [u8],
     network: &mut [u8],
     inboxes: &mut [u8],
+    summary: &mut [u8],
 ) {
     if mode % 4 == 2 {
         return;
     }
-    let judged = opening::open(plan, states, votes, network, inboxes);
+    let judged = opening::open(plan, states, votes, network, inboxes, summary);
     say_judged(b"open ", judged);
-    say_digest(states, votes, network, inboxes);
+    say_digest(states, votes, network, inboxes, summary);
 }
 
 fn run(
@@ -327,11 +378,12 @@ fn run(
     votes: &mut [u8],
     network: &mut [u8],
     inboxes: &mut [u8],
+    summary: &mut [u8],
 ) {
-    read_tables(mode, states, votes, network, inboxes);
-    run_open(mode, plan, states, votes, network, inboxes);
-    run_calls(plan, states, votes, network, inboxes);
-    say_tables(mode, states, votes, network, inboxes);
+    read_tables(mode, states, votes, network, inboxes, summary);
+    run_open(mode, plan, states, votes, network, inboxes, summary);
+    run_calls(plan, states, votes, network, inboxes, summary);
+    say_tables(mode, states, votes, network, inboxes, summary);
 }
 
 // Reads how long the tables are, and lends the first bytes of the buffers as these.
@@ -341,15 +393,18 @@ fn run_parts(
     votes: &mut [u8],
     network: &mut [u8],
     inboxes: &mut [u8],
+    summary: &mut [u8],
 ) {
     let states_end = read_end(states);
     let votes_end = read_end(votes);
     let network_end = read_end(network);
     let inboxes_end = read_end(inboxes);
+    let summary_end = read_end(summary);
     let states_part = &mut states[..states_end];
     let votes_part = &mut votes[..votes_end];
     let network_part = &mut network[..network_end];
     let inboxes_part = &mut inboxes[..inboxes_end];
+    let summary_part = &mut summary[..summary_end];
     run(
         head.mode,
         head.plan,
@@ -357,6 +412,7 @@ fn run_parts(
         votes_part,
         network_part,
         inboxes_part,
+        summary_part,
     );
 }
 
@@ -365,7 +421,15 @@ fn run_history(head: Head) {
     let mut votes = io::large_buffer();
     let mut network = io::large_buffer();
     let mut inboxes = io::large_buffer();
-    run_parts(head, &mut states, &mut votes, &mut network, &mut inboxes);
+    let mut summary = io::buffer();
+    run_parts(
+        head,
+        &mut states,
+        &mut votes,
+        &mut network,
+        &mut inboxes,
+        &mut summary,
+    );
 }
 
 fn main() {

@@ -1,4 +1,4 @@
--- The list call for other languages: 0 or the refusal, the four tables, and the lent answers.
+-- The list call for other languages: 0 or the refusal, the five tables, and the lent answers.
 --     HostRun, hostRun, hostRunOf
 -- Its laws are in Code/Laws.antt. Assumes nothing.
 pub mod Laws
@@ -13,7 +13,7 @@ pub record HostRun : Type 0 where
   pub tables : Tables
   pub answers : List ℕ
 
--- the number, the four tables and the answers at exit
+-- the number, the five tables and the answers at exit
 abbrev pub hostRun : ℕ → Tables → List ℕ → HostRun
 hostRun number t answers = record { number = number; tables = t; answers = answers }
 

@@ -1,5 +1,5 @@
 -- The list call for other languages.
---     Code       its number, the four tables and the lent answers
+--     Code       its number, the five tables and the lent answers
 --     Theorems   what the number says
 pub mod Code
 pub mod Theorems

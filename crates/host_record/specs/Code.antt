@@ -1,4 +1,4 @@
--- Opening, the event call and the ending for other languages: a number for the answer, and the four tables.
+-- Opening, the event call and the ending for other languages: a number for the answer, and the five tables.
 --     HostOpening, hostOpening, hostOpeningOf     opening: 0, or the refusal
 --     HostEvent, hostEvent, hostEventOf           the event call: the number of its answer
 --     endingNumber, endingOutcome, endingCode     how an order stands: rows 1, 2 and 3, and the number
@@ -23,7 +23,7 @@ pub record HostOpening : Type 0 where
   pub number : ℕ
   pub tables : Tables
 
--- the number and the four tables at exit
+-- the number and the five tables at exit
 abbrev pub hostOpening : ℕ → Tables → HostOpening
 hostOpening number t = record { number = number; tables = t }
 
@@ -34,7 +34,7 @@ pub record HostEvent : Type 0 where
   pub code : ℕ
   pub tables : Tables
 
--- the number and the four tables at exit
+-- the number and the five tables at exit
 abbrev pub hostEvent : ℕ → Tables → HostEvent
 hostEvent code t = record { code = code; tables = t }
 

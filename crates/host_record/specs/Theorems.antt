@@ -1,4 +1,4 @@
--- What the numbers of opening, the event call and the ending stand for, and that the tables beside them are the four tables.
+-- What the numbers of opening, the event call and the ending stand for, and that the tables beside them are the five tables.
 --     opening-means     0, or the refusal's number
 --     event-means       a slot is its number, quiet 65535, refusal k 65536 + k
 --     ending-means      0 open, 1 committed, 2 aborted, refusal k 65536 + k

@@ -1,7 +1,7 @@
 // Opening, the event call and the ending for other languages: numbers and byte slices in, one number out. They are lent W (`states`), and the
-// first two Q (`votes`), N (`network`) and I (`inboxes`) too, of any content and length.
+// first two Q (`votes`), N (`network`), I (`inboxes`) and the summary too, of any content and length.
 //
-//     paxos_commit_open       the four tables zeroed
+//     paxos_commit_open       the five tables zeroed
 //     paxos_commit_step       the event call of all nine kinds
 //     paxos_commit_ending     how the order stands: open, committed or aborted
 //
@@ -13,7 +13,7 @@ ghost use Rattle.host_record.specs.Code.{hostOpening, hostOpeningOf, hos
 use ending::Ending;
 use message::Plan;
 
-// Opens a record: 0, and every byte of the four tables 0. Refused: 1 or 2, and no byte changes.
+// Opens a record: 0, and every byte of the five tables 0. Refused: 1, 2 or 20, and no byte changes.
 #[no_mangle]
 pub extern "C" fn paxos_commit_open(
     rms: u8,
@@ -24,9 +24,11 @@ pub extern "C" fn paxos_commit_open(
     votes: &mut [u8],
     network: &mut [u8],
     inboxes: &mut [u8],
+    summary: &mut [u8],
 ) -> u8
-    ensures { λ r. ⌜ hostOpening r (tablesOf (now (states .exit)) (now (votes .exit)) (now (network .exit)) (now (inboxes .exit))) ≡
-        hostOpeningOf (recordOpen (planOf rms acceptors leaders order) (tablesOf (now (states .entry)) (now (votes .entry)) (now (network .entry)) (now (inboxes .entry)))) ⌝ }
+    ensures { λ r. ⌜ hostOpening r (tablesOf (now (states .exit)) (now (votes .exit)) (now (network .exit)) (now (inboxes .exit)) (now (summary .exit))) ≡
+        hostOpeningOf (recordOpen (planOf rms acceptors leaders order)
+        (tablesOf (now (states .entry)) (now (votes .entry)) (now (network .entry)) (now (inboxes .entry)) (now (summary .entry)))) ⌝ }
 {
     let plan = Plan {
         rms,
@@ -34,11 +36,11 @@ pub extern "C" fn paxos_commit_open(
         leaders,
         order,
     };
-    change::judged_number(opening::open(plan, states, votes, network, inboxes))
+    change::judged_number(opening::open(plan, states, votes, network, inboxes, summary))
 }
 
 // The event call. Accepted: the slot of N where the sent message stands, or 65535 for quiet (kinds 2 and 4). Refused: 65536 and the
-// number, 1 to 14; then no byte changes.
+// number, 1 to 6, 20, or 7 to 14, the first of them in this order; then no byte changes.
 #[no_mangle]
 pub extern "C" fn paxos_commit_step(
     rms: u8,
@@ -49,11 +51,12 @@ pub extern "C" fn paxos_commit_step(
     votes: &mut [u8],
     network: &mut [u8],
     inboxes: &mut [u8],
+    summary: &mut [u8],
     event: &[u8],
 ) -> u32
-    ensures { λ r. ⌜ hostEvent r (tablesOf (now (states .exit)) (now (votes .exit)) (now (network .exit)) (now (inboxes .exit))) ≡
+    ensures { λ r. ⌜ hostEvent r (tablesOf (now (states .exit)) (now (votes .exit)) (now (network .exit)) (now (inboxes .exit)) (now (summary .exit))) ≡
         hostEventOf (recordStep (planOf rms acceptors leaders order)
-        (tablesOf (now (states .entry)) (now (votes .entry)) (now (network .entry)) (now (inboxes .entry))) (now (event .entry))) ⌝ }
+        (tablesOf (now (states .entry)) (now (votes .entry)) (now (network .entry)) (now (inboxes .entry)) (now (summary .entry))) (now (event .entry))) ⌝ }
 {
     let plan = Plan {
         rms,
@@ -61,7 +64,7 @@ pub extern "C" fn paxos_commit_step(
         leaders,
         order,
     };
-    host_code::answer_code(record::step(plan, states, votes, network, inboxes, event))
+    host_code::answer_code(record::step(plan, states, votes, network, inboxes, summary, event))
 }
 
 // The number of how an order stands.

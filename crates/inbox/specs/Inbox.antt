@@ -9,7 +9,6 @@
 pub mod Slots
 pub mod Reports
 pub mod Votes
-pub mod Bits
 pub mod Quantifiers
 pub mod Blocks
 use Prim.Native.Nat.{ℕ, zero, suc}

@@ -15,7 +15,7 @@ use Rattle.message.proofs.Guards.{pass}
 use Rattle.change.specs.declared.Judged.{Judged}
 use Rattle.change.specs.declared.Judged.the-variants as Judgements
 use Rattle.change.specs.Change.{judgedOutcome}
-use Rattle.opening.specs.Opening.{Tables, areLengths, openJudged}
+use Rattle.opening.specs.Opening.{Tables, areLengths, lengthsJudged}
 use Rattle.judging.specs.Judging.{recordJudged}
 
 -- a chain of two rows that refuses does so whatever stands below them
@@ -26,14 +26,14 @@ two-rows true b i j k x rest e = e
 two-rows false true i j k x rest e = e
 two-rows false false i j k x rest e = absurd (accepted-not-refused e)
 
-module _ (p : Plan) (t : Tables) (judged : Judged) (of-judged : judgedOutcome judged ≡ openJudged p t) where
+module _ (p : Plan) (t : Tables) (judged : Judged) (of-judged : judgedOutcome judged ≡ lengthsJudged p t) where
   pub lengths-refused : (k : ℕ) → judged ≡ Judgements.Refused k → judgedOutcome judged ≡ recordJudged p t
-  unfolding openJudged recordJudged
+  unfolding lengthsJudged recordJudged
   lengths-refused k e = ap judgedOutcome e ∙ two-rows (not (isPlan p)) (not (areLengths p t)) 1 2 k tt _ (sym (ap judgedOutcome e) ∙ of-judged)
 
   module _ (e : judged ≡ Judgements.Sound) where
     rows : (not (isPlan p) ≡ false) × (not (areLengths p t) ≡ false)
-    unfolding openJudged
+    unfolding lengthsJudged
     rows =
         let plan = refuseIf-accepted (not (isPlan p)) _ _ _ (sym of-judged ∙ ap judgedOutcome e) in
         (plan .0, refuseIf-accepted (not (areLengths p t)) _ _ _ (plan .1) .0)

@@ -2,8 +2,9 @@
 -- `opening`.
 --     inboxOf          leader l's inbox is the l-th equal part of I
 --     areInboxes       row 6
---     recordJudged     rows 1 to 6: the plan and the four tables
+--     recordJudged     rows 1 to 6: the plan and the four tables; a summary is not read (Judging/Four.antt)
 -- Assumes nothing.
+pub mod Four
 use Prim.Native.Nat.{ℕ, _*_}
 use mathlib.Core.Bool.{Bool, not}
 use mathlib.Core.List.{List}

@@ -2,14 +2,14 @@
 // (`network`) and I (`inboxes`), of any content and length.
 ghost use mathlib.Core.Path.{_≡_};
 ghost use Rattle.change.specs.Change.{judgedOutcome};
-ghost use Rattle.opening.specs.Opening.{tablesOf};
+ghost use Rattle.opening.specs.Opening.{fourOf};
 ghost use Rattle.judging.specs.Judging.{recordJudged};
 use change::Judged;
 use message::Plan;
 
 // The plan, the lengths and the content of the four tables, each inbox by itself: 1 to 6.
 pub fn judge(plan: Plan, states: &[u8], votes: &[u8], network: &[u8], inboxes: &[u8]) -> Judged
-    ensures { λ r. ⌜ judgedOutcome r ≡ recordJudged plan (tablesOf (now (states .entry)) (now (votes .entry)) (now (network .entry)) (now (inboxes .entry))) ⌝ }
+    ensures { λ r. ⌜ judgedOutcome r ≡ recordJudged plan (fourOf (now (states .entry)) (now (votes .entry)) (now (network .entry)) (now (inboxes .entry))) ⌝ }
 {
     let judged = opening::judge_lengths(plan, states, votes, network, inboxes);
     let Judged::Sound = judged else {

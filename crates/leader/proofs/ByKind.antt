@@ -2,7 +2,7 @@
 --     kind-receipt, kind-phase1a, kind-phase2a, kind-commit, kind-abort
 -- Assumes nothing.
 use Prim.Native.Nat.{ℕ}
-use mathlib.Core.Bool.{Bool, true, not, _&&_}
+use mathlib.Core.Bool.{Bool, true, not}
 use mathlib.Core.List.{List}
 use mathlib.Core.Path.{_≡_, _∙_, ap}
 use borrow.Author.Tests.{eq-eqb, ne-eqb}
@@ -31,17 +31,17 @@ module _ (p : Plan) (isDecided : ℕ → ℕ → Bool) (box net : View) (e : Lis
       unfolding leaderKind refuseIf
       kind-phase2a plan n5 h r = rw (ne-eqb kind 4 n4, ne-eqb kind 5 n5, eq-eqb kind 6 h) (r ∙ rw (plan, of-who, of-high, of-low))
 
-    module _ (plan : isPlan p ≡ true) (n5 : kind ≡ 5 → ⊥) (n6 : kind ≡ 6 → ⊥) (enabled : Bool) where
-      pub kind-commit : kind ≡ 7 → enabled ≡ (isPlan p && forAll (p .rms) (λ i. isDecided i 1)) → o ≡ decideSend net enabled 1
+    module _ (n5 : kind ≡ 5 → ⊥) (n6 : kind ≡ 6 → ⊥) (enabled : Bool) where
+      pub kind-commit : kind ≡ 7 → enabled ≡ forAll (p .rms) (λ i. isDecided i 1) → o ≡ decideSend net enabled 1
           → o ≡ leaderKind p isDecided box net e kind
       unfolding leaderKind
       kind-commit h is r =
           rw (ne-eqb kind 4 n4, ne-eqb kind 5 n5, ne-eqb kind 6 n6, eq-eqb kind 7 h)
-          (r ∙ ap (λ (b : Bool). decideSend net b 1) (is ∙ rw plan))
+          (r ∙ ap (λ (b : Bool). decideSend net b 1) is)
 
-      pub kind-abort : (kind ≡ 7 → ⊥) → enabled ≡ (isPlan p && forSome (p .rms) (λ i. isDecided i 2)) → o ≡ decideSend net enabled 2
+      pub kind-abort : (kind ≡ 7 → ⊥) → enabled ≡ forSome (p .rms) (λ i. isDecided i 2) → o ≡ decideSend net enabled 2
           → o ≡ leaderKind p isDecided box net e kind
       unfolding leaderKind
       kind-abort n7 is r =
           rw (ne-eqb kind 4 n4, ne-eqb kind 5 n5, ne-eqb kind 6 n6, ne-eqb kind 7 n7)
-          (r ∙ ap (λ (b : Bool). decideSend net b 2) (is ∙ rw plan))
+          (r ∙ ap (λ (b : Bool). decideSend net b 2) is)

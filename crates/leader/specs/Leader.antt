@@ -1,16 +1,20 @@
--- The step of a leader, kinds 4 to 8 (document 01, "The nine events" and "Refusals by place"). All its conditions are read from the
--- messages in its own inbox (the crate inbox). Ownership of ballots and kind 6 are the crate `phase2a`, whose definitions (owns,
--- phase2aMessage, keepOwn, sendBoth, phase2a) have their names here too.
+-- The step of a leader, kinds 4 to 8 (document 01, "The nine events" and "Refusals by place"; document 02, Paper 5). Kind 6 reads its conditions from
+-- the messages in the leader's own inbox (the crate inbox), kinds 7 and 8 from its bytes of the summary (the crate summary, whose isSummary and
+-- stands have their names here too). Ownership of ballots and kind 6 are the crate `phase2a`, whose definitions (owns, phase2aMessage, keepOwn,
+-- sendBoth, phase2a) have their names here too.
 --     leaderJudged                  rows 1, 2, 5 and 6: the plan and both tables
 --     receipt                       kind 4
 --     phase1a                       kind 5
 --     decideSend                    kinds 7 and 8
 --     leaderKind, leaderVerdictBy   rows 7 to 14, by what counts as decided: what an event changes, or its refusal
---     leaderStepBy                  the whole call, by what counts as decided
---     leaderVerdict, leaderStep     the same with Decided read from the inbox
+--     leaderStepBy                  the call without a summary, by what counts as decided
+--     summaryAfter                  the leader's bytes of the summary after an event: an accepted receipt marks
+--     LeaderStep, leaderStepOf, leaderMarked     what a leader's own call answers and leaves in the inbox, N and those bytes
+--     leaderStep                    the whole call: rows 1, 2, 5, 6, then 20, then 7 on, Decided read from the summary
 -- What is judged is in Leader/Sound.antt. Assumes nothing.
 pub mod Sound
 pub mod Updates
+pub mod Received
 use Prim.Native.Nat.{ℕ}
 use mathlib.Core.Bool.{Bool, not, cond}
 use mathlib.Core.List.{List}
@@ -25,11 +29,15 @@ use Rattle.slots.specs.declared.Store.the-variants.{Keep}
 use Rattle.slots.specs.Table.{isTableLength, isTable, messages}
 use Rattle.slots.specs.View.{View, viewTable, sending}
 use Rattle.change.specs.declared.Change.{Change}
+use Rattle.change.specs.declared.Answer.{Answer}
+use Rattle.change.specs.declared.Sent.{Sent}
 use Rattle.change.specs.declared.Sent.the-variants.{Slot, Quiet}
 use Rattle.change.specs.declared.Update.the-variants.{Inbox}
-use Rattle.change.specs.Change.{Step, applied}
+use Rattle.change.specs.Change.{Step, stepOf, applied}
 use Rattle.event.specs.Event.{kindOf, whoOf, highOf, lowOf, slotNumber, isEvent}
 use Rattle.inbox.specs.Inbox.{decided, forAll, forSome}
+use Rattle.summary.specs.Summary.{markedAt}
+unfoldable pub use Rattle.summary.specs.Summary.{isSummary, stands}
 unfoldable pub use Rattle.phase2a.specs.Phase2a.{owns, phase2aMessage, keepOwn, sendBoth, phase2a}
 
 unfoldable pub leaderJudged : Plan → List ℕ → List ℕ → Outcome (Unit {0})
@@ -87,14 +95,34 @@ leaderVerdictBy p isDecided box net e =
     (refuseIf (ltb (kindOf e) 4) 7
     (leaderKind p isDecided box net e (kindOf e))))
 
--- the event is taken on the messages that the inbox and N hold
+-- the call without a summary: the event is taken on the messages that the inbox and N hold
 unfoldable pub leaderStepBy : Plan → (ℕ → ℕ → Bool) → List ℕ → List ℕ → List ℕ → Step
 leaderStepBy p isDecided inbox network e =
     applied p inbox network (andThen (leaderJudged p inbox network) (λ _. leaderVerdictBy p isDecided (viewTable p inbox) (viewTable p network) e))
 
--- Decided is read from the inbox
-abbrev pub leaderVerdict : Plan → View → View → List ℕ → Outcome Change
-leaderVerdict p box net e = leaderVerdictBy p (decided p (box .messages)) box net e
+-- of kind 4 that was accepted, by what the inbox then says is Decided; `net` is N, which a receipt leaves as it was
+abbrev pub summaryAfter : (ℕ → ℕ → Bool) → View → List ℕ → Outcome Sent → List ℕ → List ℕ
+summaryAfter isDecided net e (accepted sent) summary = cond (eqb (kindOf e) 4) (markedAt isDecided summary (net .slot (slotNumber e))) summary
+summaryAfter isDecided net e (refused number) summary = summary
 
-abbrev pub leaderStep : Plan → List ℕ → List ℕ → List ℕ → Step
-leaderStep p inbox network e = leaderStepBy p (decided p (messages p inbox)) inbox network e
+-- `step` has the answer, the inbox and N
+pub record LeaderStep : Type 0 where
+  pub step : Step
+  pub summary : List ℕ
+
+-- the answer's enum and the tables at exit
+abbrev pub leaderStepOf : Answer → List ℕ → List ℕ → List ℕ → LeaderStep
+leaderStepOf answer inbox summary network = record { step = stepOf answer inbox network; summary = summary }
+
+-- a step on the inbox and N, and the summary after it
+abbrev pub leaderMarked : (List ℕ → ℕ → ℕ → Bool) → (List ℕ → View) → List ℕ → List ℕ → Step → LeaderStep
+leaderMarked isDecided view summary e s =
+    record { step = s; summary = summaryAfter (isDecided (s .table)) (view (s .network)) e (s .answer) summary }
+
+unfoldable pub leaderStep : Plan → List ℕ → List ℕ → List ℕ → List ℕ → LeaderStep
+leaderStep p inbox summary network e =
+    leaderMarked (λ box. decided p (messages p box)) (viewTable p) summary e
+    (applied p inbox network
+    (andThen (leaderJudged p inbox network) (λ _.
+    refuseIf (not (isSummary (p .rms) summary)) 20
+    (leaderVerdictBy p (stands summary) (viewTable p inbox) (viewTable p network) e))))

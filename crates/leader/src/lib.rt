@@ -1,16 +1,17 @@
 // The step of a leader, kinds 4 to 8, on tables that were judged: receipt, and Phase1a, Phase2a and Decide of document 001. It is lent
-// one inbox and N, and reads its conditions from that inbox alone (the crate inbox). Phase2a is the crate phase2a. The call by itself, which
-// judges the tables first, is the crate leader_call.
+// one inbox, N and its bytes of the summary; it reads Decided from the summary alone, and Phase2a's conditions from the inbox alone (the crate
+// phase2a). The call by itself, which judges the tables first, is the crate leader_call.
 //
-//     evaluate, perform      what an event comes to, and that stored (see the crate change)
+//     evaluate, perform      what an event comes to, and that stored (see the crate change) and marked (see the crate summary)
 ghost use mathlib.Core.Bool.{true};
 ghost use mathlib.Core.Path.{_≡_};
 ghost use Rattle.message.specs.Outcome.{andThen};
 ghost use Rattle.message.specs.Plan.{isPlan};
 ghost use Rattle.slots.specs.View.Bytes.{viewBytes};
-ghost use Rattle.change.specs.Change.{verdictOutcome, stepOf, applied};
-ghost use Rattle.inbox.specs.Inbox.{decided};
-ghost use Rattle.leader.specs.Leader.{receiptStore, receipt, sendOnly, phase1a, decideSend, leaderKind, leaderVerdict};
+ghost use Rattle.change.specs.Change.{verdictOutcome, answerOutcome, applied};
+ghost use Rattle.summary.specs.Summary.{decidedBytes};
+ghost use Rattle.leader.specs.Leader.{receiptStore, receipt, sendOnly, phase1a, decideSend, leaderKind, leaderVerdictBy};
+ghost use Rattle.leader.specs.Leader.{stands, summaryAfter, leaderStepOf, leaderMarked};
 use change::Answer;
 use change::Change;
 use change::Sent;
@@ -119,10 +120,17 @@ fn decide_send(plan: Plan, network: &[u8], enabled: bool, val: u8) -> Verdict
 }
 
 // What an event of kinds 4 to 8 comes to.
-fn evaluate_kind(plan: Plan, inbox: &[u8], network: &[u8], event: &[u8], kind: u8) -> Verdict
+fn evaluate_kind(
+    plan: Plan,
+    inbox: &[u8],
+    summary: &[u8],
+    network: &[u8],
+    event: &[u8],
+    kind: u8,
+) -> Verdict
     requires { ⌜ isPlan plan ≡ true ⌝ }
     ensures { λ r. ⌜ verdictOutcome r ≡
-        leaderKind plan (decided plan (viewBytes plan (now (inbox .entry)) .messages)) (viewBytes plan (now (inbox .entry))) (viewBytes plan (now (network .entry))) (now (event .entry)) kind ⌝ }
+        leaderKind plan (stands (now (summary .entry))) (viewBytes plan (now (inbox .entry))) (viewBytes plan (now (network .entry))) (now (event .entry)) kind ⌝ }
 {
     if kind == 4 {
         return receive(plan, inbox, network, event::slot_number(event));
@@ -137,16 +145,16 @@ fn evaluate_kind(plan: Plan, inbox: &[u8], network: &[u8], event: &[u8], kind: u
         return phase2a::propose(plan, inbox, network, who, high, low);
     }
     if kind == 7 {
-        return decide_send(plan, network, decided::is_decided_all(plan, inbox, 1), 1);
+        return decide_send(plan, network, summary::all_prepared(plan, summary), 1);
     }
-    decide_send(plan, network, decided::is_decided_some(plan, inbox, 2), 2)
+    decide_send(plan, network, summary::some_aborted(plan, summary), 2)
 }
 
 // What the event comes to: 1 for the plan, 7 where it is no event of a leader, then 8, 9, 10, 12, 13 or 14. It judges no table: in one that
 // nobody judged it takes the slot's bytes for a message.
-pub fn evaluate(plan: Plan, inbox: &[u8], network: &[u8], event: &[u8]) -> Verdict
+pub fn evaluate(plan: Plan, inbox: &[u8], summary: &[u8], network: &[u8], event: &[u8]) -> Verdict
     ensures { λ r. ⌜ verdictOutcome r ≡
-        leaderVerdict plan (viewBytes plan (now (inbox .entry))) (viewBytes plan (now (network .entry))) (now (event .entry)) ⌝ }
+        leaderVerdictBy plan (stands (now (summary .entry))) (viewBytes plan (now (inbox .entry))) (viewBytes plan (now (network .entry))) (now (event .entry)) ⌝ }
 {
     if !message::is_plan(plan) {
         return Verdict::Refused(1);
@@ -158,14 +166,44 @@ pub fn evaluate(plan: Plan, inbox: &[u8], network: &[u8], event: &[u8]) -> Verdi
     if kind < 4 {
         return Verdict::Refused(7);
     }
-    evaluate_kind(plan, inbox, network, event, kind)
+    evaluate_kind(plan, inbox, summary, network, event, kind)
 }
 
-// Evaluates and stores; a refusal changes no byte. It judges no table.
-pub fn perform(plan: Plan, inbox: &mut [u8], network: &mut [u8], event: &[u8]) -> Answer
-    ensures { λ r. ⌜ stepOf r (now (inbox .exit)) (now (network .exit)) ≡
-        applied plan (now (inbox .entry)) (now (network .entry)) (leaderVerdict plan (viewBytes plan (now (inbox .entry))) (viewBytes plan (now (network .entry))) (now (event .entry))) ⌝ }
+// A receipt that was accepted marks the message that it took; nothing else changes the summary.
+fn mark_receipt(
+    plan: Plan,
+    inbox: &[u8],
+    summary: &mut [u8],
+    network: &[u8],
+    event: &[u8],
+    answer: Answer,
+)
+    ensures { λ _. ⌜ now (summary .exit) ≡
+        summaryAfter (decidedBytes plan (now (inbox .entry))) (viewBytes plan (now (network .entry))) (now (event .entry)) (answerOutcome answer) (now (summary .entry)) ⌝ }
 {
-    let verdict = evaluate(plan, inbox, network, event);
-    change::apply(plan, inbox, network, verdict)
+    let Answer::Accepted(_) = answer else {
+        return;
+    };
+    if message::byte_at(event, 0) == 4 {
+        summary::mark(plan, inbox, summary, network, event::slot_number(event));
+    }
+}
+
+// Evaluates, stores and marks; a refusal changes no byte. It judges no table.
+pub fn perform(
+    plan: Plan,
+    inbox: &mut [u8],
+    summary: &mut [u8],
+    network: &mut [u8],
+    event: &[u8],
+) -> Answer
+    ensures { λ r. ⌜ leaderStepOf r (now (inbox .exit)) (now (summary .exit)) (now (network .exit)) ≡
+        leaderMarked (decidedBytes plan) (viewBytes plan) (now (summary .entry)) (now (event .entry))
+        (applied plan (now (inbox .entry)) (now (network .entry))
+        (leaderVerdictBy plan (stands (now (summary .entry))) (viewBytes plan (now (inbox .entry))) (viewBytes plan (now (network .entry))) (now (event .entry)))) ⌝ }
+{
+    let verdict = evaluate(plan, inbox, summary, network, event);
+    let answer = change::apply(plan, inbox, network, verdict);
+    mark_receipt(plan, inbox, summary, network, event, answer);
+    answer
 }

@@ -4,9 +4,9 @@
 --     CommitAction, AbortAction        Decide by the messages of a set
 --     stateOf                          the variables of module PaxosCommit: msgs as N holds them; a leader changes no other
 --     isReceived, proposed, Reports    the messages that a leader takes; the 2a that it proposes; the votes that 1b messages report
---     NotOwned, DisabledBy, Disabled, Full, InboxFull     rows 10, 12, 13 and 14
---     leaderTableRows                  the rows of "Refusals by place" for the call: those of its plan and tables
---     leaderRowsBy, leaderRows         all of them, by what counts as decided; with Decided read from the inbox
+--     NotOwned, DisabledBy, Full, InboxFull, WrongSummary     rows 10, 12, 13, 14 and 20
+--     leaderTableRows, leaderEventRows     the rows of "Refusals by place" for the call: those of its plan and tables, those of its event
+--     leaderRowsBy, leaderRows         all of them: without a summary, by what counts as decided; with it, and Decided read from it
 -- Assumes nothing.
 pub mod Decided
 pub mod Conditions
@@ -15,12 +15,13 @@ pub mod Guards
 pub mod Ruled
 pub mod Took
 pub mod Laws
+pub mod Own
 use Prim.Native.Nat.{ℕ, _<_}
 use mathlib.Core.Bool.{Bool, true, false}
 use mathlib.Core.List.{List, List·Memᴰ}
 use mathlib.Core.Logic.{_⊎_}
 use mathlib.Core.Path.{_≡_}
-use lib.ListN.{length}
+use lib.ListN.{length, getD}
 use Rattle.message.specs.declared.Plan.{Plan}
 use Rattle.message.specs.declared.Vote.the-variants.{Cast}
 use Rattle.message.specs.declared.Message as Wire
@@ -32,9 +33,10 @@ use Rattle.event.specs.Event.{kindOf, whoOf, highOf, lowOf, isEvent}
 use Rattle.inbox.specs.Inbox.{highestReport, proposal}
 use Rattle.paxos_commit.specs.PaxosCommit as Source
 use Rattle.paxos_commit.specs.PaxosCommit.{Val, Message, AState, State}
-use Rattle.leader.specs.Leader.{owns}
+use Rattle.leader.specs.Leader.{owns, stands}
 use Rattle.matching.specs.Reading.{isRM, isAcceptor, isMajoritySet, setOf}
 use Rattle.matching.specs.Call.{Enabled, HasRoom, SlotUnused, SlotHolds}
+use Rattle.matching.specs.Leader.Decided.{DecidedBy}
 
 abbrev pub Phase1aAction : Plan → ℕ → ℕ → State → State → Type 0
 Phase1aAction p = Source.Phase1a (isRM p) (isAcceptor p) (isMajoritySet p)
@@ -92,10 +94,6 @@ DisabledBy p Decided inbox e s =
     ((kindOf e ≡ 7) × (Enabled p (CommitBy p Decided) s → ⊥))
     ((kindOf e ≡ 8) × (Enabled p (AbortBy p Decided) s → ⊥)))
 
--- with Decided read from the inbox
-abbrev pub Disabled : Plan → List ℕ → List ℕ → State → Type 1
-Disabled p inbox = DisabledBy p (DecidedIn p (setOf (messages p inbox))) inbox
-
 -- row 13: the message to send is not in N, and N has no unused slot
 abbrev pub Full : Plan → List ℕ → List ℕ → List ℕ → Type 0
 Full p inbox network e =
@@ -110,6 +108,10 @@ InboxFull p inbox network e =
     ((kindOf e ≡ 4) × SlotHolds p network e (λ m. HasRoom p inbox m → ⊥))
     ⊎ ((kindOf e ≡ 6) × (HasRoom p inbox (proposed p inbox e) → ⊥))
 
+-- row 20: the summary does not have `count` bytes, or one of them is above 3
+abbrev pub WrongSummary : ℕ → List ℕ → Type 0
+WrongSummary count summary = (length summary ≡ count → ⊥) ⊎ ((i : ℕ) × (3 < getD summary i 0))
+
 -- a leader's own call: the plan and its two tables, then the rows below
 abbrev pub leaderTableRows : Plan → List ℕ → List ℕ → Rows → Rows
 leaderTableRows p inbox network rest =
@@ -119,19 +121,25 @@ leaderTableRows p inbox network rest =
     (row 6 (isTable p inbox ≡ false)
     rest)))
 
--- with the event, and the rows of kinds 4 to 8
-abbrev pub leaderRowsBy : Plan → (ℕ → Val → Type 0) → List ℕ → List ℕ → List ℕ → State → Rows
-leaderRowsBy p Decided inbox network e s =
-    leaderTableRows p inbox network
-    (row 7 ((isEvent p e ≡ false) ⊎ (kindOf e < 4))
+-- the event, and the rows of kinds 4 to 8
+abbrev pub leaderEventRows : Plan → (ℕ → Val → Type 0) → List ℕ → List ℕ → List ℕ → State → Rows
+leaderEventRows p Decided inbox network e s =
+    row 7 ((isEvent p e ≡ false) ⊎ (kindOf e < 4))
     (row 8 ((kindOf e ≡ 4) × SlotUnused p network e)
     (row 9 ((kindOf e ≡ 4) × SlotHolds p network e (λ m. isReceived m ≡ false))
     (row 10 (NotOwned p e)
     (guard 12 (DisabledBy p Decided inbox e s)
     (row 13 (Full p inbox network e)
     (row 14 (InboxFull p inbox network e)
-    end)))))))
+    end))))))
 
--- with Decided read from the inbox
-abbrev pub leaderRows : Plan → List ℕ → List ℕ → List ℕ → State → Rows
-leaderRows p inbox = leaderRowsBy p (DecidedIn p (setOf (messages p inbox))) inbox
+-- the call without a summary
+abbrev pub leaderRowsBy : Plan → (ℕ → Val → Type 0) → List ℕ → List ℕ → List ℕ → State → Rows
+leaderRowsBy p Decided inbox network e s = leaderTableRows p inbox network (leaderEventRows p Decided inbox network e s)
+
+-- a leader's own call: row 20 before the event's rows, and Decided read from the summary
+abbrev pub leaderRows : Plan → List ℕ → List ℕ → List ℕ → List ℕ → State → Rows
+leaderRows p inbox summary network e s =
+    leaderTableRows p inbox network
+    (row 20 (WrongSummary (p .rms) summary)
+    (leaderEventRows p (DecidedBy (stands summary)) inbox network e s))

@@ -1,9 +1,10 @@
 -- Demand 2, role by role, and document 01's sentence "The lowest number that applies is returned". For each role's own call:
---     *-answers       the answer is refused with k exactly where row k applies and none with a lower number does, and accepted exactly where
---                     no row applies; row 12 is that the published action is not enabled
---     *-keeps         a refused call leaves both tables as they were
---     *-sound         well-formed tables stay well formed, of the same lengths
+--     *-answers       the answer is refused with k exactly where row k applies and none with a lower number does (of a leader: where it is the
+--                     first row that applies), and accepted exactly where no row applies; row 12 is that the published action is not enabled
+--     *-keeps         a refused call leaves both tables as they were, and the summary
+--     *-sound         well-formed tables stay well formed, of the same lengths, and so does the summary
 --     and for each action: an accepted call sets what the published action sets; the sent message, the answered slot and every byte are given.
+--     leader-unmarked     a kind other than 4 leaves the summary as it was (what kind 4 leaves is in leader-receipt)
 --     majorities-meet     a plan's majorities are as document 001 assumes them, so the theorems of paxos_commit hold at every plan
 --     readable-messages   a message in range is one of document 001's set Message
 --     well-formed         rows 5 and 6 in terms of messages
@@ -21,15 +22,15 @@ use Rattle.message.specs.declared.Plan.{Plan}
 use Rattle.message.specs.declared.Message as Wire
 use Rattle.message.specs.declared.Message.the-variants.{Phase1a, Phase2a, Phase2b, Phase1b, Decision}
 use Rattle.message.specs.Outcome.{accepted, refused}
-use Rattle.message.specs.Rows.{Lowest}
-use Rattle.message.specs.Rows.Laws.{isAscending, lowest-of-ruled}
+use Rattle.message.specs.Rows.{Lowest, InOrder}
+use Rattle.message.specs.Rows.Laws.{isAscending, lowest-of-ruled, in-order-of-ruled}
 use Rattle.slots.specs.Table.{isTableLength, isTable, messages}
 use Rattle.slots.specs.Send.{messageAt}
 use Rattle.change.specs.declared.Sent.the-variants.{Quiet}
 use Rattle.change.specs.Change.{Step}
 use Rattle.event.specs.Event.{kindOf, whoOf, slotNumber, highOf, lowOf}
 use Rattle.tcommit.specs.RmState.{prepared, committed, aborted}
-use Rattle.paxos_commit.specs.PaxosCommit.{Assume, IsMessage, Commit, Abort, AState, State, Message, phase2a}
+use Rattle.paxos_commit.specs.PaxosCommit.{Assume, IsMessage, Commit, Abort, AState, State, Val, Message, phase2a}
 use Rattle.rm.specs.Rm.{rmJudged, rmStep}
 use Rattle.acceptor.specs.Acceptor.{voteAt, acceptorJudged, acceptorStep}
 use Rattle.event.specs.Event.Laws.{rm-who, acceptor-who, leader-who, event-instance}
@@ -49,13 +50,14 @@ use mathlib.Core.List.{List·Memᴰ}
 use Rattle.quorum.specs.Quorum.{isQuorum}
 use Rattle.message.specs.declared.Vote.the-variants.{Cast}
 use Rattle.message.specs.Plan.{isPlan}
-use Rattle.leader.specs.Leader.{owns, leaderJudged, leaderStep}
-use Rattle.matching.specs.Leader.{Phase1aAction, Phase2aAction, CommitAction, AbortAction, DecidedIn, proposed, Reports, leaderRows}
+use Rattle.inbox.specs.Inbox.{decided}
+use Rattle.summary.specs.Summary.{marked}
+use Rattle.leader.specs.Leader.{owns, leaderJudged, isSummary, stands, LeaderStep, leaderStep}
+use Rattle.matching.specs.Leader.{Phase1aAction, Phase2aAction, CommitBy, AbortBy, proposed, Reports, leaderRows}
 use Rattle.matching.specs.Leader.{stateOf as leaderState}
-use Rattle.matching.specs.Leader.Conditions.{reflects-inbox}
-use Rattle.matching.specs.Leader.Ruled.{leader-ruled}
-use Rattle.matching.specs.Leader.Took.{took as leader-took}
+use Rattle.matching.specs.Leader.Decided.{DecidedBy, reflects-by}
 use Rattle.matching.specs.Leader.Laws as Leader
+use Rattle.matching.specs.Leader.Own as Own
 
 -- module PaxosCommit's ASSUME at a plan's constants
 pub majorities-meet : (p : Plan) → Assume (isRM p) (isAcceptor p) (isMajoritySet p)
@@ -163,29 +165,38 @@ module _ (p : Plan) (votes network e : List ℕ) where
           × (acceptor .table ≡ set (set (set votes (at ins) bal) (at ins + 1) bal) (at ins + 2) val)
       acceptor-phase2b ins bal val slot = Acceptor.phase2b-acts p votes network e (Acceptor.took p votes network e taken) ins bal val slot rmState
 
--- a leader; `seen` is the set of messages in its inbox
-module _ (p : Plan) (inbox network e : List ℕ) where
-  abbrev leader : Step
-  leader = leaderStep p inbox network e
+-- a leader; `seen` is the set of messages in its inbox, and `ownStands` is what its bytes of the summary say is Decided
+module _ (p : Plan) (inbox summary network e : List ℕ) where
+  abbrev leader : LeaderStep
+  leader = leaderStep p inbox summary network e
 
   abbrev seen : Message → Type 0
   seen = setOf (messages p inbox)
 
-  pub leader-keeps : (k : ℕ) → leader .answer ≡ refused k → (leader .table ≡ inbox) × (leader .network ≡ network)
-  leader-keeps k is = tables-kept (Leader.keeps p _ inbox network e k is)
+  abbrev ownStands : ℕ → Val → Type 0
+  ownStands = DecidedBy (stands summary)
+
+  pub leader-keeps : (k : ℕ) → leader .step .answer ≡ refused k
+      → (leader .step .table ≡ inbox) × (leader .step .network ≡ network) × (leader .summary ≡ summary)
+  leader-keeps k is =
+      let (step, same) = Own.own-keeps p inbox summary network e k is in
+      let (box, net) = tables-kept step in
+      (box, net, same)
 
   pub leader-sound : leaderJudged p inbox network ≡ accepted tt
-      → (leaderJudged p (leader .table) (leader .network) ≡ accepted tt)
-      × (length (leader .table) ≡ length inbox)
-      × (length (leader .network) ≡ length network)
-  leader-sound = Leader.stays-sound p _ inbox network e
+      → (leaderJudged p (leader .step .table) (leader .step .network) ≡ accepted tt)
+      × (length (leader .step .table) ≡ length inbox)
+      × (length (leader .step .network) ≡ length network)
+      × (length (leader .summary) ≡ length summary)
+      × (isSummary (p .rms) summary ≡ true → isSummary (p .rms) (leader .summary) ≡ true)
+  leader-sound sound = let (judged, l, n, (s, right)) = Own.own-sound p inbox summary network e sound in (judged, l, n, s, right)
 
-  pub leader-member : Accepted (leader .answer) → whoOf e < p .leaders
-  leader-member taken = let t = leader-took p _ inbox network e taken in leader-who p e (t .event) (t .least)
+  pub leader-member : Accepted (leader .step .answer) → whoOf e < p .leaders
+  leader-member taken = let t = Own.own-took p inbox summary network e taken in leader-who p e (t .event) (t .least)
 
   -- kinds 5 and 6
-  pub leader-instance : Accepted (leader .answer) → 4 < kindOf e → kindOf e ≤ 6 → isRM p (highOf e)
-  leader-instance taken = event-instance p e (leader-took p _ inbox network e taken .event)
+  pub leader-instance : Accepted (leader .step .answer) → 4 < kindOf e → kindOf e ≤ 6 → isRM p (highOf e)
+  leader-instance taken = event-instance p e (Own.own-took p inbox summary network e taken .event)
 
   -- the 2a that kind 6 proposes: of several highest reports in the inbox the first
   pub leader-proposal : (xs ys : List Wire.Message) (a c v : ℕ) → messages p inbox ≡ xs ++ (Phase1b (highOf e) a (lowOf e) (Cast c v) ∷ ys)
@@ -199,47 +210,62 @@ module _ (p : Plan) (inbox network e : List ℕ) where
       → proposed p inbox e ≡ Phase2a (highOf e) (lowOf e) 2
   leader-proposal-none = Leader.proposal-none p inbox e
 
-  module _ (rmState : ℕ → ℕ) (aState : ℕ → ℕ → AState) where
-    pub leader-answers : Lowest (leaderRows p inbox network e (leaderState p network rmState aState)) (leader .answer)
-    unfolding isAscending
-    leader-answers = lowest-of-ruled _ refl _ (leader-ruled p _ (DecidedIn p seen) inbox network e (reflects-inbox p _) rmState aState)
+  pub leader-unmarked : Accepted (leader .step .answer) → (kindOf e ≡ 4 → ⊥) → leader .summary ≡ summary
+  leader-unmarked = Own.own-keeps-summary p inbox summary network e
 
-    module _ (taken : Accepted (leader .answer)) where
-      -- kind 4: quiet; N keeps its bytes, and the inbox gains the message in the slot
+  module _ (rmState : ℕ → ℕ) (aState : ℕ → ℕ → AState) where
+    pub leader-answers : InOrder (leaderRows p inbox summary network e (leaderState p network rmState aState)) (leader .step .answer)
+    leader-answers = in-order-of-ruled _ _ (Own.own-ruled p inbox summary network e rmState aState)
+
+    module _ (taken : Accepted (leader .step .answer)) where
+      -- kind 4: quiet; N keeps its bytes, the inbox gains the message in the slot, and of a 2b for (i, v) the bit of v in byte i of the summary
+      -- is set where Decided(i, v) holds in the inbox then
       pub leader-receipt : kindOf e ≡ 4 → (m : Wire.Message) → messageAt (messages p network) (slotNumber e) ≡ accepted m
-          → (leader .answer ≡ accepted Quiet)
-          × (leader .network ≡ network)
-          × Stores p inbox m (leader .table)
-      leader-receipt = Leader.receipt-acts rmState aState (leader-took p _ inbox network e taken)
+          → (leader .step .answer ≡ accepted Quiet)
+          × (leader .step .network ≡ network)
+          × Stores p inbox m (leader .step .table)
+          × (leader .summary ≡ marked (decided p (messages p (leader .step .table))) summary m)
+      leader-receipt kind m slot =
+          let own = Own.own-took p inbox summary network e taken in
+          let (quiet, kept, stores) = rw (← Own.own-step p inbox summary network e taken) at (Leader.receipt-acts rmState aState own kind m slot) in
+          (quiet, kept, stores, Own.own-marks p inbox summary network e taken kind m slot)
 
       -- kind 5: Phase1a
       pub leader-phase1a : kindOf e ≡ 5
-          → Phase1aAction p (lowOf e) (highOf e) (leaderState p network rmState aState) (leaderState p (leader .network) rmState aState)
-          × Sends p network (Phase1a (highOf e) (lowOf e)) (leader .answer) (leader .network)
-          × (leader .table ≡ inbox)
-      leader-phase1a kind = Leader.phase1a-acts rmState aState (leader-took p _ inbox network e taken) kind .0
+          → Phase1aAction p (lowOf e) (highOf e) (leaderState p network rmState aState) (leaderState p (leader .step .network) rmState aState)
+          × Sends p network (Phase1a (highOf e) (lowOf e)) (leader .step .answer) (leader .step .network)
+          × (leader .step .table ≡ inbox)
+      leader-phase1a kind =
+          rw (Own.own-step p inbox summary network e taken)
+          (Leader.phase1a-acts rmState aState (Own.own-took p inbox summary network e taken) kind .0)
 
       -- kind 6: Phase2a, its conditions read from the inbox; what the action sends, what N gains and what the inbox gains is one message
       pub leader-phase2a : kindOf e ≡ 6
-          → (acts : Phase2aAction p seen (lowOf e) (highOf e) (leaderState p network rmState aState) (leaderState p (leader .network) rmState aState))
+          → (acts : Phase2aAction p seen (lowOf e) (highOf e) (leaderState p network rmState aState) (leaderState p (leader .step .network) rmState aState))
           × (phase2a (highOf e) (lowOf e) (acts .1 .2) ≡ messageOf (proposed p inbox e))
-          × Sends p network (proposed p inbox e) (leader .answer) (leader .network)
-          × Stores p inbox (proposed p inbox e) (leader .table)
-      leader-phase2a kind = Leader.phase2a-acts rmState aState (leader-took p _ inbox network e taken) kind .0
+          × Sends p network (proposed p inbox e) (leader .step .answer) (leader .step .network)
+          × Stores p inbox (proposed p inbox e) (leader .step .table)
+      leader-phase2a kind =
+          rw (Own.own-step p inbox summary network e taken)
+          (Leader.phase2a-acts rmState aState (Own.own-took p inbox summary network e taken) kind .0)
 
-      -- kind 7: Decide to commit
+      -- kind 7: Decide to commit, by the summary
       pub leader-commit : kindOf e ≡ 7
-          → CommitAction p seen (leaderState p network rmState aState) (leaderState p (leader .network) rmState aState)
-          × Sends p network (Decision 1) (leader .answer) (leader .network)
-          × (leader .table ≡ inbox)
-      leader-commit kind = Leader.commit-acts rmState aState (leader-took p _ inbox network e taken) (DecidedIn p seen) (reflects-inbox p _) kind .0
+          → CommitBy p ownStands (leaderState p network rmState aState) (leaderState p (leader .step .network) rmState aState)
+          × Sends p network (Decision 1) (leader .step .answer) (leader .step .network)
+          × (leader .step .table ≡ inbox)
+      leader-commit kind =
+          rw (Own.own-step p inbox summary network e taken)
+          (Leader.commit-acts rmState aState (Own.own-took p inbox summary network e taken) ownStands (λ _. reflects-by (stands summary)) kind .0)
 
-      -- kind 8: Decide to abort
+      -- kind 8: Decide to abort, by the summary
       pub leader-abort : kindOf e ≡ 8
-          → AbortAction p seen (leaderState p network rmState aState) (leaderState p (leader .network) rmState aState)
-          × Sends p network (Decision 2) (leader .answer) (leader .network)
-          × (leader .table ≡ inbox)
-      leader-abort kind = Leader.abort-acts rmState aState (leader-took p _ inbox network e taken) (DecidedIn p seen) (reflects-inbox p _) kind .0
+          → AbortBy p ownStands (leaderState p network rmState aState) (leaderState p (leader .step .network) rmState aState)
+          × Sends p network (Decision 2) (leader .step .answer) (leader .step .network)
+          × (leader .step .table ≡ inbox)
+      leader-abort kind =
+          rw (Own.own-step p inbox summary network e taken)
+          (Leader.abort-acts rmState aState (Own.own-took p inbox summary network e taken) ownStands (λ _. reflects-by (stands summary)) kind .0)
 
 -- a ballot above 0 has exactly one owner among the leaders of the plan
 pub one-owner : (p : Plan) → isPlan p ≡ true → (b : ℕ) → 0 < b

@@ -3,7 +3,7 @@
 --     Plan      the plan and its range (refusal 1)
 --     Form      messages, their ranges (refusal 17) and their bytes
 --     Codec     the reader and the writer
---     Rows      the rows of "Refusals by place" for a call: the lowest number that applies
+--     Rows      the rows of "Refusals by place" for a call: the lowest number that applies, or the first row
 --     Theorems  the one byte form, and what reader and writer answer
 pub mod Outcome
 pub mod Plan

@@ -216,10 +216,14 @@ fn least(a: usize, b: usize) -> usize
     if a < b { a } else { b }
 }
 
+// The refusal by name; 20 is document 02's (Paper 5).
 fn say_refusal_name(text: Text, number: u8) -> Text {
     let which = number as usize;
     if which < 7 {
         return say(text, &TABLE_REFUSALS, which, b"");
+    }
+    if which == 20 {
+        return say_words(text, b"the summary is damaged");
     }
     say(text, &EVENT_REFUSALS, least(which - 7, 8), b"")
 }
@@ -294,6 +298,7 @@ fn tell_events(
     votes: &mut [u8],
     network: &mut [u8],
     inboxes: &mut [u8],
+    summary: &mut [u8],
     events: &[u8],
 ) -> bool {
     let count = rehearsal_input::event_count(events);
@@ -303,7 +308,7 @@ fn tell_events(
         let event = rehearsal_input::event_at(events, made);
         made += 1;
         let tried = say_event(made, plan, network, event);
-        let answer = record::step(plan, states, votes, network, inboxes, event);
+        let answer = record::step(plan, states, votes, network, inboxes, summary, event);
         let text = say_outcome(tried, plan, network, answer, states);
         written = write(written, text);
     }
@@ -315,6 +320,11 @@ fn votes_length(rms: u8, acceptors: u8) -> usize {
     3 * ((rms as usize) * (acceptors as usize))
 }
 
+// The bytes of the summary: one for each leader and instance.
+fn summary_length(rms: u8, leaders: u8) -> usize {
+    (rms as usize) * (leaders as usize)
+}
+
 // Opens a record, makes the events, and writes how the order stands: whether all is written. The tables are parts of buffers that are long
 // enough for every plan in range, so that opening refuses none.
 fn tell(plan: Plan, events: &[u8]) -> bool {
@@ -322,21 +332,32 @@ fn tell(plan: Plan, events: &[u8]) -> bool {
     let mut votes = io::buffer();
     let mut network = io::large_buffer();
     let mut inboxes = io::large_buffer();
+    let mut summary = io::buffer();
     let states_end = plan.rms as usize;
     let votes_end = least(votes_length(plan.rms, plan.acceptors), 4096);
     let network_end = SLOT_SIZE * MAX_SLOTS;
     let inboxes_end = least(SLOT_SIZE * MAX_SLOTS * plan.leaders as usize, 65536);
+    let summary_end = least(summary_length(plan.rms, plan.leaders), 4096);
     let states_part = &mut states[..states_end];
     let votes_part = &mut votes[..votes_end];
     let network_part = &mut network[..network_end];
     let inboxes_part = &mut inboxes[..inboxes_end];
-    opening::open(plan, states_part, votes_part, network_part, inboxes_part);
+    let summary_part = &mut summary[..summary_end];
+    opening::open(
+        plan,
+        states_part,
+        votes_part,
+        network_part,
+        inboxes_part,
+        summary_part,
+    );
     let written = tell_events(
         plan,
         states_part,
         votes_part,
         network_part,
         inboxes_part,
+        summary_part,
         events,
     );
     write(written, say_ending(states_part))

@@ -1,3 +1,3 @@
--- The four tables of an order record.
+-- The tables of an order record.
 --     Opening   their lengths, and opening them
 pub mod Opening

@@ -1,3 +1,3 @@
 -- The order record.
---     Record     its four tables, opening it, and the event call
+--     Record     its tables, opening it, and the event call
 pub mod Record

@@ -1,19 +1,22 @@
-// The order record: the event call of all nine kinds (document 01, "The plan and four tables" and "Refusals by place"). Opening a record is the
+// The order record: the event call of all nine kinds (document 01, "The plan and four tables" and "Refusals by place"; document 02, Paper 5). Opening a record is the
 // crate `opening`, judging one the crate `judging`, what an event comes to on it the crate `verdict`. Message bytes are below the roles' steps, and
 // these below `verdict`, which sees only what each role promises.
 //
 //     store_in_inbox   stores in a leader's inbox, a part of I
 //     update_table     changes W, Q or the leader's inbox
 //     apply            stores what a verdict accepts, and answers
-//     perform          the step of the event's role: `verdict::evaluate`, then `apply`; it judges the event but no table
-//     step             the event call: `judging::judge`, then `perform`
+//     mark_part        marks a leader's bytes of the summary, a part of it as its inbox is of I
+//     perform          the step of the event's role: `verdict::evaluate`, then `apply`, then the mark; it judges the event but no table
+//     step             the event call: `judging::judge`, the summary, then `perform`
 //
-// Each is lent what it changes of W (`states`), Q (`votes`), N (`network`) and I (`inboxes`), of any content and length.
+// Each is lent what it changes of W (`states`), Q (`votes`), N (`network`), I (`inboxes`) and the summary, of any content and length.
 ghost use mathlib.Core.List.{List};
 ghost use mathlib.Core.Path.{_≡_};
-ghost use Prim.Native.Nat.{ℕ};
+ghost use Prim.Native.Nat.{ℕ, _<_};
+ghost use Rattle.slots.specs.View.Bytes.{viewBytes};
 ghost use Rattle.change.specs.Change.{verdictOutcome};
-ghost use Rattle.record.specs.Record.{tablesOf, recordStepOf, recordStep};
+ghost use Rattle.summary.specs.Summary.{markedAt, decidedBytes};
+ghost use Rattle.record.specs.Record.{tablesOf, inboxOf, withInbox, recordStepOf, recordStep};
 ghost use Rattle.record.specs.Record.Applied.{keptInbox, changed, appliedTo, recordApplied};
 use change::Answer;
 use change::Judged;
@@ -45,8 +48,8 @@ fn update_table(
     leader: u8,
     update: Update,
 )
-    ensures { λ _. ⌜ ((n : List ℕ) → tablesOf (now (states .exit)) (now (votes .exit)) n (now (inboxes .exit)) ≡
-        changed plan leader (tablesOf (now (states .entry)) (now (votes .entry)) n (now (inboxes .entry))) update n) ⌝ }
+    ensures { λ _. ⌜ ((n s : List ℕ) → tablesOf (now (states .exit)) (now (votes .exit)) n (now (inboxes .exit)) s ≡
+        changed plan leader (tablesOf (now (states .entry)) (now (votes .entry)) n (now (inboxes .entry)) s) update n) ⌝ }
 {
     match update {
         Update::State { who, state } => slots::set_byte(states, who, state),
@@ -55,7 +58,7 @@ fn update_table(
     }
 }
 
-// Stores what a verdict accepts and answers; a refusal changes no byte. One call for all roles, so that the compiler puts it in its place.
+// Stores what a verdict accepts and answers, whatever the summary; a refusal changes no byte. One call for all roles, so that the compiler puts it in its place.
 fn apply(
     plan: Plan,
     states: &mut [u8],
@@ -65,8 +68,8 @@ fn apply(
     leader: u8,
     verdict: Verdict,
 ) -> Answer
-    ensures { λ r. ⌜ recordStepOf r (tablesOf (now (states .exit)) (now (votes .exit)) (now (network .exit)) (now (inboxes .exit))) ≡
-        appliedTo plan leader (tablesOf (now (states .entry)) (now (votes .entry)) (now (network .entry)) (now (inboxes .entry))) (verdictOutcome verdict) ⌝ }
+    ensures { λ r. ⌜ ((s : List ℕ) → recordStepOf r (tablesOf (now (states .exit)) (now (votes .exit)) (now (network .exit)) (now (inboxes .exit)) s) ≡
+        appliedTo plan leader (tablesOf (now (states .entry)) (now (votes .entry)) (now (network .entry)) (now (inboxes .entry)) s) (verdictOutcome verdict)) ⌝ }
 {
     let Verdict::Accepted(change) = verdict else {
         return Answer::Refused(change::verdict_number(verdict));
@@ -79,39 +82,79 @@ fn apply(
     Answer::Accepted(sent)
 }
 
+// What the slot of N holds was received by the leader: its bytes of the summary are marked by its inbox.
+fn mark_part(
+    plan: Plan,
+    network: &[u8],
+    inboxes: &[u8],
+    summary: &mut [u8],
+    leader: u8,
+    slot: usize,
+)
+    requires { ⌜ leader < plan .leaders ⌝ }
+    ensures { λ _. ⌜ now (summary .exit) ≡ withInbox plan (now (summary .entry)) leader
+        (markedAt (decidedBytes plan (inboxOf plan (now (inboxes .entry)) leader))
+        (inboxOf plan (now (summary .entry)) leader) (viewBytes plan (now (network .entry)) .slot slot)) ⌝ }
+{
+    let size = inboxes.len() / plan.leaders as usize;
+    let from = leader as usize * size;
+    let to = from + size;
+    let inbox = &inboxes[from..to];
+    let count = summary.len() / plan.leaders as usize;
+    let start = leader as usize * count;
+    let end = start + count;
+    let own = &mut summary[start..end];
+    summary::mark(plan, inbox, own, network, slot);
+}
+
 // The step of the event's role: 7 where it is no event, and then what the role refuses. A refusal changes no byte. It judges no table: on a
-// record that was judged it is the event call.
+// record that was judged, with its summary, it is the event call.
 pub fn perform(
     plan: Plan,
     states: &mut [u8],
     votes: &mut [u8],
     network: &mut [u8],
     inboxes: &mut [u8],
+    summary: &mut [u8],
     event: &[u8],
 ) -> Answer
-    ensures { λ r. ⌜ recordStepOf r (tablesOf (now (states .exit)) (now (votes .exit)) (now (network .exit)) (now (inboxes .exit))) ≡
-        recordApplied plan (tablesOf (now (states .entry)) (now (votes .entry)) (now (network .entry)) (now (inboxes .entry))) (now (event .entry)) ⌝ }
+    ensures { λ r. ⌜ recordStepOf r (tablesOf (now (states .exit)) (now (votes .exit)) (now (network .exit)) (now (inboxes .exit)) (now (summary .exit))) ≡
+        recordApplied plan (tablesOf (now (states .entry)) (now (votes .entry)) (now (network .entry)) (now (inboxes .entry)) (now (summary .entry))) (now (event .entry)) ⌝ }
 {
-    let verdict = verdict::evaluate(plan, states, votes, network, inboxes, event);
+    let verdict = verdict::evaluate(plan, states, votes, network, inboxes, summary, event);
     let leader = message::byte_at(event, 1);
-    apply(plan, states, votes, network, inboxes, leader, verdict)
+    let answer = apply(plan, states, votes, network, inboxes, leader, verdict);
+    let Answer::Accepted(sent) = answer else {
+        return answer;
+    };
+    if message::byte_at(event, 0) == 4 {
+        let slot = event::slot_number(event);
+        mark_part(plan, network, inboxes, summary, leader, slot);
+    }
+    Answer::Accepted(sent)
 }
 
-// The event call: what `judging::judge` refuses, and then as `perform`; a refusal changes no byte.
+// The event call: what `judging::judge` refuses, then 20 for the summary, and then as `perform`; a refusal changes no byte.
 pub fn step(
     plan: Plan,
     states: &mut [u8],
     votes: &mut [u8],
     network: &mut [u8],
     inboxes: &mut [u8],
+    summary: &mut [u8],
     event: &[u8],
 ) -> Answer
-    ensures { λ r. ⌜ recordStepOf r (tablesOf (now (states .exit)) (now (votes .exit)) (now (network .exit)) (now (inboxes .exit))) ≡
-        recordStep plan (tablesOf (now (states .entry)) (now (votes .entry)) (now (network .entry)) (now (inboxes .entry))) (now (event .entry)) ⌝ }
+    ensures { λ r. ⌜ recordStepOf r (tablesOf (now (states .exit)) (now (votes .exit)) (now (network .exit)) (now (inboxes .exit)) (now (summary .exit))) ≡
+        recordStep plan (tablesOf (now (states .entry)) (now (votes .entry)) (now (network .entry)) (now (inboxes .entry)) (now (summary .entry))) (now (event .entry)) ⌝ }
 {
     let judged = judging::judge(plan, states, votes, network, inboxes);
     match judged {
         Judged::Refused(number) => Answer::Refused(number),
-        Judged::Sound => perform(plan, states, votes, network, inboxes, event),
+        Judged::Sound => {
+            if !summary::is_summary(summary, plan.rms as usize * plan.leaders as usize) {
+                return Answer::Refused(20);
+            }
+            perform(plan, states, votes, network, inboxes, summary, event)
+        }
     }
 }

@@ -1,5 +1,6 @@
 -- From the text to the rehearsal.
---     votes-within, opened-judged, run-opened     the tables' parts are opened as the fresh ones, which are sound
+--     votes-within, summary-within                the bytes of Q and of the summary, at most
+--     opened-judged, run-opened                   the tables' parts are opened as the fresh ones, which are sound
 --     nothing-put, rehearsal-put                  a buffer that is too short, and one that is not
 --     plan-given, plan-refused                    the two cases of the text
 --     events-within, given-plan                   what the events' length and the plan are known to be
@@ -18,7 +19,7 @@ use Rattle.message.specs.Outcome.{accepted}
 use Rattle.message.specs.Plan.{isPlan}
 use Rattle.message.specs.Plan.Laws.{plan-bounds}
 use Rattle.slots.specs.Table.{isTableLength}
-use Rattle.record.specs.Record.{Tables, tablesOf, Opening, recordOpen, recordJudged}
+use Rattle.record.specs.Record.{Tables, tablesOf, Opening, recordOpen, lentJudged}
 use Rattle.safety.specs.Lists.{Call}
 use Rattle.rehearsal_input.specs.declared.PlanRead.{PlanRead}
 use Rattle.rehearsal_input.specs.declared.PlanRead.the-variants.{Given, Refused}
@@ -35,26 +36,33 @@ module _ (p : Plan) (plan : isPlan p ≡ true) where
   votes-within =
       mul-le-mul {n₁ = p .rms} {m₁ = p .acceptors} {n₂ = 16} {m₂ = 7} (plan-bounds p plan .rms-most) (plan-bounds p plan .acceptors-most)
 
-  module _ (w q n i : List ℕ) (lengths : (length w ≡ 16) × (length q ≡ 336) × (length n ≡ 8192) × (length i ≡ 32768)) (o : Opening)
-      (cleared : o ≡ recordOpen p (tablesOf (take (p .rms) w) (take (3 * (p .rms * p .acceptors)) q) n (take (p .leaders * 8192) i))) where
+  pub summary-within : p .rms * p .leaders ≤ 64
+  summary-within =
+      mul-le-mul {n₁ = p .rms} {m₁ = p .leaders} {n₂ = 16} {m₂ = 4} (plan-bounds p plan .rms-most) (plan-bounds p plan .leaders-most)
+
+  module _ (w q n i s : List ℕ) (lengths : (length w ≡ 16) × (length q ≡ 336) × (length n ≡ 8192) × (length i ≡ 32768) × (length s ≡ 64))
+      (o : Opening)
+      (cleared : o
+      ≡ recordOpen p (tablesOf (take (p .rms) w) (take (3 * (p .rms * p .acceptors)) q) n (take (p .leaders * 8192) i) (take (p .rms * p .leaders) s))) where
     tables-opened : o .tables ≡ freshTables 1024 p
     unfolding isTableLength
     tables-opened =
         let b = plan-bounds p plan in
         let v = votes-within in
+        let m = summary-within in
         let first = b .rms-most in
         let last = b .leaders-most in
         let is = opens p 1024 plan refl _ (length-take-le (p .rms) w (omega arith)) (length-take-le (3 * (p .rms * p .acceptors)) q (omega arith))
-        (lengths .2) (length-take-le (p .leaders * 8192) i (omega arith)) in
+        (lengths .2) (length-take-le (p .leaders * 8192) i (omega arith)) (length-take-le (p .rms * p .leaders) s (omega arith)) in
         ap (λ (x : Opening). x .tables) (cleared ∙ is)
 
-    pub opened-judged : recordJudged p (o .tables) ≡ accepted tt
+    pub opened-judged : lentJudged p (o .tables) ≡ accepted tt
     unfolding isTableLength
-    opened-judged = ap (recordJudged p) tables-opened ∙ fresh-judged p 1024 plan refl
+    opened-judged = ap (lentJudged p) tables-opened ∙ fresh-judged p 1024 plan refl
 
-    pub run-opened : (calls : List Call) (output : List ℕ) (s : Put) → s ≡ put 0 (textOf p (o .tables) calls) output
-        → s ≡ put 0 (textOf p (freshTables 1024 p) calls) output
-    run-opened calls output s run = run ∙ ap (λ (x : Tables). put 0 (textOf p x calls) output) tables-opened
+    pub run-opened : (calls : List Call) (output : List ℕ) (r : Put) → r ≡ put 0 (textOf p (o .tables) calls) output
+        → r ≡ put 0 (textOf p (freshTables 1024 p) calls) output
+    run-opened calls output r run = run ∙ ap (λ (x : Tables). put 0 (textOf p x calls) output) tables-opened
 
 module _ (input output : List ℕ) where
   pub nothing-put : length output < 24586 → putOf 0 output ≡ rehearsal input output

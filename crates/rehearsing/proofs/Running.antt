@@ -4,9 +4,8 @@
 --     run-put                   the lines of the list call's answers, that of a cut event, then the word: the text of all the calls
 -- Assumes nothing.
 use Prim.Native.Nat.{ℕ, suc, _+_, _*_, _/_, _%_, _≤_, _<_}
-use mathlib.Core.Bool.{true}
 use mathlib.Core.List.{List, _++_}
-use mathlib.Core.Path.{_≡_, refl, sym, _∙_, ap}
+use mathlib.Core.Path.{_≡_, sym, _∙_, ap}
 use native.Mathlib.Numerals.{add-one}
 use native.Mathlib.Omega.{arith}
 use lib.ListN.{length, getD, take, drop, drop-of-length-le}
@@ -16,9 +15,9 @@ use Rattle.message.specs.declared.Plan.{Plan}
 use Rattle.message.specs.Outcome.{accepted}
 use Rattle.ending.specs.declared.Ending as EndingType
 use Rattle.ending.specs.Ending.{endingOf}
-use Rattle.record.specs.Record.{Tables, RecordStep, recordJudged}
-use Rattle.batch.specs.Run.{eventsOf, singleCalls, tablesLeft, numbersOf, Run, isList, finishedRun, recordRun}
-use Rattle.batch.proofs.Running.{run-finished}
+use Rattle.record.specs.Record.{Tables, RecordStep, lentJudged}
+use Rattle.batch.specs.Run.{eventsOf, singleCalls, tablesLeft, numbersOf, Run, finishedRun, recordRun}
+use Rattle.batch.specs.Run.Laws.{run-whole}
 use Rattle.rehearsal_text.specs.Text.{line, wordOf, Put, putOf, put}
 use Rattle.rehearsal_text.specs.Text.Laws.{put-none, put-then}
 use Rattle.rehearsing.specs.Rehearsal.{callsIn, textOf, numberLines, cutLine}
@@ -55,13 +54,13 @@ put-three a b c output o one q two s three =
     ∙ sym (put-then 0 a (b ++ c) output)
 
 module _ (events given : List ℕ) (few : length events ≤ 32768) (room : length given ≡ 8192) where
-  is-list : isList (take (length events / 4 * 4) events) (take (length events / 4) given) ≡ true
-  is-list =
+  four-each : length (take (length events / 4 * 4) events) ≡ 4 * length (take (length events / 4) given)
+  four-each =
       let e = length-take-le (length events / 4 * 4) events (omega arith) in
       let a = length-take-le (length events / 4) given (omega arith) in
-      rw (e, a, eq-eqb (length events / 4 * 4 % 4) 0 (omega arith), eq-eqb (length events / 4) (length events / 4 * 4 / 4) (omega arith))
+      rw (e, a) (omega arith)
 
-  pub run-put : (p : Plan) (t : Tables) → recordJudged p t ≡ accepted tt → (output : List ℕ)
+  pub run-put : (p : Plan) (t : Tables) → lentJudged p t ≡ accepted tt → (output : List ℕ)
       → (r : Run) → r ≡ recordRun p t (take (length events / 4 * 4) events) (take (length events / 4) given)
       → (o : Put) → o ≡ put 0 (numberLines (r .answers)) output
       → (q : Put) → q ≡ put (o .end) (cutLine events) (o .buffer)
@@ -71,7 +70,7 @@ module _ (events given : List ℕ) (few : length events ≤ 32768) (room : lengt
   unfolding finishedRun
   run-put p t ok output r ran o lined q cut ending is s word =
       let list : List ℕ = take (length events / 4 * 4) events in
-      let done : r ≡ finishedRun p t list = ran ∙ sym (run-finished p t list (take (length events / 4) given) (sym ok) is-list (finishedRun p t list) refl) in
+      let done : r ≡ finishedRun p t list = ran ∙ run-whole p t list (take (length events / 4) given) ok four-each in
       let calls : List RecordStep = singleCalls p t (eventsOf events) in
       let same : singleCalls p t (eventsOf list) ≡ calls = ap (singleCalls p t) (events-whole events) in
       let numbers : r .answers ≡ numbersOf calls = ap (λ (x : Run). x .answers) done ∙ ap numbersOf same in

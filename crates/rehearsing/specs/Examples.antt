@@ -21,11 +21,13 @@ use Rattle.rm.specs.Rm.{areStates, rmJudged, rmChoose, rmReceiveDecision, rmRec
 use Rattle.votes.specs.Votes.{isVoteState, areVotes}
 use Rattle.acceptor.specs.Acceptor.{voteAt, voteOf, phase1b, phase2b, acceptorJudged, acceptorReceive, acceptorVerdict, acceptorStep}
 use Rattle.quorum.specs.Quorum.{countAcceptors, isMajority, isQuorum}
+use Rattle.quorum.specs.Mask.{hasBit, insertBit}
 use Rattle.inbox.specs.Inbox.{any, is1b, is2a, is2b, higher, reportOf, highestReport, proposal, chosen, isChosen2b, decided, forAll, forSome}
+use Rattle.summary.specs.Summary.{isSummary, stands, marked}
 use Rattle.leader.specs.Leader.{owns, leaderJudged, receiptStore, receipt, phase1a, phase2aMessage, keepOwn, sendBoth, phase2a, sendOnly, decideSend}
 use Rattle.leader.specs.Leader.{leaderKind, leaderVerdictBy, leaderStepBy}
 use Rattle.ending.specs.Ending.{areAll, endingOf}
-use Rattle.record.specs.Record.{inboxSize, areLengths, inboxOf, withInbox, areInboxes, recordJudged, roleStep, recordStep}
+use Rattle.record.specs.Record.{inboxSize, areLengths, inboxOf, withInbox, areInboxes, recordJudged, lentJudged, roleStep, recordStep}
 use Rattle.rehearsal_input.specs.Input.{planIn, eventsIn}
 use Rattle.rehearsal_text.specs.Text.{ascii, line}
 use Rattle.rehearsing.specs.Rehearsal.{callsIn, freshTables, textOf, printedFor, rehearsed}
@@ -78,8 +80,8 @@ unfolding examples andThen refuseIf isPlan isCount isValue isVote isInRange byte
     sameMessage placeFrom placeIn messageAt sending slotNumber whoLimit areZero areArguments isEvent areStates rmJudged rmChoose rmReceiveDecision
     rmReceive rmKind rmVerdict rmStep voteAt isVoteState areVotes acceptorJudged voteOf phase1b phase2b acceptorReceive acceptorVerdict
     acceptorStep countAcceptors isMajority isQuorum any is1b is2a is2b higher reportOf highestReport proposal chosen isChosen2b decided forAll forSome
-    owns leaderJudged receiptStore receipt phase1a phase2aMessage keepOwn sendBoth phase2a sendOnly decideSend leaderKind leaderVerdictBy leaderStepBy
-    inboxSize areLengths inboxOf withInbox areInboxes recordJudged roleStep recordStep areAll endingOf
+    isSummary stands marked hasBit insertBit owns leaderJudged receiptStore receipt phase1a phase2aMessage keepOwn sendBoth phase2a sendOnly decideSend leaderKind leaderVerdictBy leaderStepBy
+    inboxSize areLengths inboxOf withInbox areInboxes recordJudged lentJudged roleStep recordStep areAll endingOf
     planIn eventsIn callsIn freshTables line textOf printedFor rehearsed
 examples-hold = refl
 

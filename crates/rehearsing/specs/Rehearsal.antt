@@ -28,10 +28,11 @@ callsIn zero bytes = []
 callsIn (suc most) [] = []
 callsIn (suc most) (b ∷ bytes) = event (take 4 (b ∷ bytes)) ∷ callsIn most (drop 4 (b ∷ bytes))
 
--- zeros: n bytes in W, 3 × n × A in Q, and so many slots
+-- zeros: n bytes in W, 3 × n × A in Q, so many slots, and n × L bytes in the summary
 unfoldable pub freshTables : ℕ → Plan → Tables
 freshTables slots p =
     tablesOf (replicate (p .rms) 0) (replicate (3 * (p .rms * p .acceptors)) 0) (replicate (slotSize * slots) 0) (replicate (p .leaders * (slotSize * slots)) 0)
+    (replicate (p .rms * p .leaders) 0)
 
 -- "one line per event, 0 or the refusal"
 abbrev pub numberLines : List ℕ → List ℕ

@@ -51,14 +51,15 @@ zeros n = rw (length-replicate {A = ℕ} n 0)
 module _ (p : Plan) where
   fresh : (slots : ℕ) → Fresh (freshTables slots p)
   unfolding freshTables
-  fresh slots = (zeros (p .rms), zeros (3 * (p .rms * p .acceptors)), zeros (8 * slots), zeros (p .leaders * (8 * slots)))
+  fresh slots = (zeros (p .rms), zeros (3 * (p .rms * p .acceptors)), zeros (8 * slots), zeros (p .leaders * (8 * slots)), zeros (p .rms * p .leaders))
 
   pub opened : isPlan p ≡ true → (t : Tables)
       → length (t .states) ≡ p .rms → length (t .votes) ≡ 3 * (p .rms * p .acceptors)
       → length (t .network) ≡ 8 * 1024 → length (t .inboxes) ≡ p .leaders * (8 * 1024)
+      → length (t .summary) ≡ p .rms * p .leaders
       → (recordOpen p t .answer ≡ accepted tt) × (recordOpen p t .tables ≡ freshTables 1024 p)
   unfolding isTableLength
-  opened plan t w q n i = rw (opens p 1024 plan refl t w q n i) (refl, refl)
+  opened plan t w q n i s = rw (opens p 1024 plan refl t w q n i s) (refl, refl)
 
   pub no-line-11 : (slots : ℕ) (calls : List Call) → List·Memᴰ (refused 11) (answers p (freshTables slots p) calls) → ⊥
   no-line-11 slots = never-11 p (freshTables slots p) (fresh slots)

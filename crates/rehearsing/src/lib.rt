@@ -16,7 +16,7 @@ ghost use mathlib.Core.Path.{_≡_};
 ghost use lib.ListN.{length};
 ghost use Rattle.message.specs.Outcome.{accepted};
 ghost use Rattle.message.specs.Plan.{isPlan};
-ghost use Rattle.record.specs.Record.{tablesOf, recordJudged};
+ghost use Rattle.record.specs.Record.{tablesOf, lentJudged};
 ghost use Rattle.rehearsal_text.specs.Text.{putOf, put};
 ghost use Rattle.rehearsing.specs.Rehearsal.{callsIn, freshTables, textOf, numberLines, cutLine, rehearsal};
 use event::EVENT_SIZE;
@@ -26,7 +26,8 @@ use rehearsal_input::PlanRead;
 // Three bytes for each of 8,192 events, and the longest word.
 pub const MAX_OUTPUT: usize = 24586;
 
-// The four tables for the largest plan: 16 resource managers, 7 acceptors, 4 leaders; 1,024 slots of eight bytes in N and in each inbox.
+// The five tables for the largest plan: 16 resource managers, 7 acceptors, 4 leaders; 1,024 slots of eight bytes in N and in each inbox; in the
+// summary a byte for each leader and resource manager.
 const STATES_SIZE: usize = 16;
 
 const VOTES_SIZE: usize = 336;
@@ -34,6 +35,8 @@ const VOTES_SIZE: usize = 336;
 const NETWORK_SIZE: usize = 8192;
 
 const INBOXES_SIZE: usize = 32768;
+
+const SUMMARY_SIZE: usize = 64;
 
 // An answer for each of the most events.
 const ANSWERS_SIZE: usize = 8192;
@@ -60,6 +63,12 @@ fn inboxes_table() -> [u8; INBOXES_SIZE]
     ensures { λ r. ⌜ length r ≡ 32768 ⌝ }
 {
     [0; INBOXES_SIZE]
+}
+
+fn summary_table() -> [u8; SUMMARY_SIZE]
+    ensures { λ r. ⌜ length r ≡ 64 ⌝ }
+{
+    [0; SUMMARY_SIZE]
 }
 
 fn answers_table() -> [u8; ANSWERS_SIZE]
@@ -98,21 +107,31 @@ fn run_events(
     votes: &mut [u8],
     network: &mut [u8],
     inboxes: &mut [u8],
+    summary: &mut [u8],
     events: &[u8],
     answers: &mut [u8],
     output: &mut [u8],
 ) -> usize
-    requires { ⌜ recordJudged plan (tablesOf (now states) (now votes) (now network) (now inboxes)) ≡ accepted tt ⌝ }
+    requires { ⌜ lentJudged plan (tablesOf (now states) (now votes) (now network) (now inboxes) (now summary)) ≡ accepted tt ⌝ }
     requires { ⌜ (length (now events) ≤ 32768) × (length (now answers) ≡ 8192) ⌝ }
     ensures { λ r. ⌜ putOf r (now (output .exit)) ≡ put 0 (textOf plan
-        (tablesOf (now (states .entry)) (now (votes .entry)) (now (network .entry)) (now (inboxes .entry)))
+        (tablesOf (now (states .entry)) (now (votes .entry)) (now (network .entry)) (now (inboxes .entry)) (now (summary .entry)))
         (callsIn 8192 (now (events .entry)))) (now (output .entry)) ⌝ }
 {
     let count = events.len() / EVENT_SIZE;
     let end = count * EVENT_SIZE;
     let whole = &events[..end];
     let answered = &mut answers[..count];
-    batch::run(plan, states, votes, network, inboxes, whole, answered);
+    batch::run(
+        plan,
+        states,
+        votes,
+        network,
+        inboxes,
+        summary,
+        whole,
+        answered,
+    );
     let lines_end = put_answers(output, answered);
     let cut_end = put_cut(output, lines_end, events);
     rehearsal_text::put_ending(output, cut_end, ending::ending_of(states))
@@ -125,12 +144,14 @@ fn run(
     votes: &mut [u8],
     network: &mut [u8],
     inboxes: &mut [u8],
+    summary: &mut [u8],
     events: &[u8],
     answers: &mut [u8],
     output: &mut [u8],
 ) -> usize
     requires { ⌜ isPlan plan ≡ true ⌝ }
-    requires { ⌜ (length (now states) ≡ 16) × (length (now votes) ≡ 336) × (length (now network) ≡ 8192) × (length (now inboxes) ≡ 32768) ⌝ }
+    requires { ⌜ (length (now states) ≡ 16) × (length (now votes) ≡ 336) × (length (now network) ≡ 8192) × (length (now inboxes) ≡ 32768)
+        × (length (now summary) ≡ 64) ⌝ }
     requires { ⌜ (length (now events) ≤ 32768) × (length (now answers) ≡ 8192) ⌝ }
     ensures { λ r. ⌜ putOf r (now (output .exit)) ≡ put 0 (textOf plan (freshTables 1024 plan)
         (callsIn 8192 (now (events .entry)))) (now (output .entry)) ⌝ }
@@ -138,16 +159,26 @@ fn run(
     let states_end = plan.rms as usize;
     let votes_end = 3 * (plan.rms as usize * plan.acceptors as usize);
     let inboxes_end = plan.leaders as usize * NETWORK_SIZE;
+    let summary_end = plan.rms as usize * plan.leaders as usize;
     let states_part = &mut states[..states_end];
     let votes_part = &mut votes[..votes_end];
     let inboxes_part = &mut inboxes[..inboxes_end];
-    opening::open(plan, states_part, votes_part, network, inboxes_part);
+    let summary_part = &mut summary[..summary_end];
+    opening::open(
+        plan,
+        states_part,
+        votes_part,
+        network,
+        inboxes_part,
+        summary_part,
+    );
     run_events(
         plan,
         states_part,
         votes_part,
         network,
         inboxes_part,
+        summary_part,
         events,
         answers,
         output,
@@ -165,6 +196,7 @@ fn run_fresh(plan: Plan, events: &[u8], output: &mut [u8]) -> usize
     let mut votes = votes_table();
     let mut network = network_table();
     let mut inboxes = inboxes_table();
+    let mut summary = summary_table();
     let mut answers = answers_table();
     run(
         plan,
@@ -172,6 +204,7 @@ fn run_fresh(plan: Plan, events: &[u8], output: &mut [u8]) -> usize
         &mut votes,
         &mut network,
         &mut inboxes,
+        &mut summary,
         events,
         &mut answers,
         output,

@@ -176,16 +176,9 @@ pub fn perform(plan: Plan, states: &mut [u8], network: &mut [u8], event: &[u8]) 
     change::apply(plan, states, network, verdict)
 }
 
-// Whether every byte of W is a state; where one is not, 3. The states are the numbers of two bits, so each byte is one exactly where all
-// bits together are.
+// Whether every byte of W is a state; where one is not, 3. The states are the numbers of two bits.
 pub fn are_states(states: &[u8]) -> bool
     ensures { λ r. ⌜ r ≡ areStates (now (states .entry)) ⌝ }
 {
-    let mut bits = 0;
-    let mut i = 0;
-    while i < states.len() {
-        bits = bits | states[i];
-        i += 1;
-    }
-    bits <= RmState::ABORTED
+    slots::are_two_bits(states)
 }

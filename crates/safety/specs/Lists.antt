@@ -1,5 +1,5 @@
 -- The lists of calls that demand 3 speaks of (document 01, "Transaction Commit", and document 02), and what it claims.
---     Fresh                    every byte of the four tables is zero; their lengths are any
+--     Fresh                    every byte of the four tables and of the summary is zero; their lengths are any
 --     Call                     one call of a list: an event call or a list call, with any bytes
 --     countedFor, counted      the events that a list of calls comes to
 --     made                     the single event calls that it comes to, and what each answers and leaves
@@ -29,6 +29,7 @@ Fresh t =
     × (t .votes ≡ zeroed (t .votes))
     × (t .network ≡ zeroed (t .network))
     × (t .inboxes ≡ zeroed (t .inboxes))
+    × (t .summary ≡ zeroed (t .summary))
 
 -- one call of a list
 pub data Call : Type 0 where

@@ -7,28 +7,30 @@
 --                              call of the record, a list call its single calls in order, and none where it is refused; each is given what the calls
 --                              before it left
 --     demand-3-each            so demand 3 holds of every event call after every list of calls
---     opening-fresh, opening-lengths     opening makes a fresh record of the same lengths (a refused one leaves the tables: open-keeps in the crate
---                              conformance)
+--     opening-fresh, opening-lengths     opening makes a fresh record of the same lengths, the summary of n × L bytes (a refused one leaves the
+--                              tables: open-keeps in the crate conformance)
 --     demand-3-opened          demand 3 from opening on
 --     fresh-initial            a fresh record reads as PCInit of module PaxosCommit
--- Why they hold: Grounds.antt. Assumes nothing.
-use Prim.Native.Nat.{ℕ}
+-- Why they hold: Grounds.antt. What the summary says meanwhile: Standing.antt. Assumes nothing.
+use Prim.Native.Nat.{ℕ, _*_}
 use mathlib.Core.List.{List, [], _∷_, _++_, map, append-nil, map-append, List·Memᴰ, List·Memᴰ·head, List·Memᴰ·tail, List·Memᴰ·not-nil}
 use mathlib.Core.Logic.{_↔_}
 use mathlib.Core.Path.{_≡_, refl, sym, _∙_, ap}
+use native.Mathlib.Decide.{ℕ-discrete}
 use native.Mathlib.Omega.{arith}
 use lib.ListN.{length, length-replicate}
 use Rattle.message.specs.declared.Plan.{Plan}
 use Rattle.message.specs.declared.Message.{Message}
 use Rattle.message.specs.Outcome.{Outcome, accepted, refused, numberOf}
 use Rattle.message.specs.Outcome.Laws.{refused-number}
+use Rattle.message.specs.Rows.{here, below}
 use Rattle.slots.specs.Table.{messages}
 use Rattle.slots.specs.Send.{messageAt}
 use Rattle.record.specs.Record.{Tables, RecordStep, recordStep, recordOpen}
 use Rattle.paxos_commit.specs.PaxosCommit.{PCInit}
 use Rattle.matching.specs.Reading.{isRM, isAcceptor, isMajoritySet}
 use Rattle.conformance.specs.Record.{recordState}
-use Rattle.conformance.specs.Theorems.{open-zeros}
+use Rattle.conformance.specs.Theorems.{open-answers, open-zeros}
 use Rattle.batch.specs.Run.{eventsOf, singleCalls, numbersOf, Run, finishedRun, recordRun}
 use Rattle.batch.specs.Run.Laws.{calls-keep, run-accepted, run-refused}
 use Rattle.safety.specs.Lists.{Fresh, Call, event, run, countedFor, counted, made, Each, AfterEach, Safe, answers, tablesAfter}
@@ -39,7 +41,7 @@ use Rattle.safety.specs.Grounds.Steps.{Used, used-zeros, used-event, pat
 
 module _ (p : Plan) where
   pub used-fresh : (t : Tables) → Fresh t → Used p t
-  used-fresh t (w, q, n, i) = used-zeros p t w q n i
+  used-fresh t (w, q, n, i, s) = used-zeros p t w q n i s
 
   -- one event call on a record that was opened and used
   safe-event : (t : Tables) (e : List ℕ) → Used p t → Safe p t (recordStep p t e)
@@ -176,14 +178,26 @@ module _ (p : Plan) where
 
 module _ (p : Plan) (t : Tables) where
   pub opening-fresh : recordOpen p t .answer ≡ accepted tt → Fresh (recordOpen p t .tables)
-  opening-fresh is = rw (open-zeros p t is) (zeros-zeroed (t .states), zeros-zeroed (t .votes), zeros-zeroed (t .network), zeros-zeroed (t .inboxes))
+  opening-fresh is =
+      rw (open-zeros p t is)
+      (zeros-zeroed (t .states), zeros-zeroed (t .votes), zeros-zeroed (t .network), zeros-zeroed (t .inboxes), zeros-zeroed (t .summary))
 
   pub opening-lengths : recordOpen p t .answer ≡ accepted tt
       → (length (recordOpen p t .tables .states) ≡ length (t .states))
       × (length (recordOpen p t .tables .votes) ≡ length (t .votes))
       × (length (recordOpen p t .tables .network) ≡ length (t .network))
       × (length (recordOpen p t .tables .inboxes) ≡ length (t .inboxes))
-  opening-lengths is = rw (open-zeros p t is) (length-replicate _ 0, length-replicate _ 0, length-replicate _ 0, length-replicate _ 0)
+      × (length (recordOpen p t .tables .summary) ≡ length (t .summary))
+      × (length (t .summary) ≡ p .rms * p .leaders)
+  opening-lengths is =
+      rw (open-zeros p t is)
+      (length-replicate _ 0, length-replicate _ 0, length-replicate _ 0, length-replicate _ 0, length-replicate _ 0, right)
+    where
+      right : length (t .summary) ≡ p .rms * p .leaders
+      right = elim (ℕ-discrete (length (t .summary)) (p .rms * p .leaders)) [
+        | yes e ↦ e
+        | no n ↦ absurd (open-answers p t .accepts .0 (tt, is) 20 (below (below (here (refl, (n, tt))))))
+      ]
 
   -- so demand 3 holds from opening on, whatever the tables held before it
   pub demand-3-opened : recordOpen p t .answer ≡ accepted tt → (calls : List Call) → AfterEach p (Safe p) (recordOpen p t .tables) calls
@@ -191,4 +205,4 @@ module _ (p : Plan) (t : Tables) where
 
   -- and a fresh record reads as the initial state of module PaxosCommit
   pub fresh-initial : Fresh t → PCInit (isRM p) (isAcceptor p) (isMajoritySet p) (recordState p t)
-  fresh-initial (w, q, n, i) = initial-zeros p t w q n
+  fresh-initial (w, q, n, i, s) = initial-zeros p t w q n

@@ -6,13 +6,16 @@
 //     Place, store_message             where a message stands or may be appended, and putting it there
 //     Store, Send, apply_store         what sending a message comes to, decided before anything is stored, and storing it
 //     set_byte                         a byte of a table
+//     are_two_bits                     whether every byte is at most 3
 //     word                             four bytes as one number
 //
 // Looking for a message is the crate `search`, judging whole tables the crate `tables`.
 // What each of them means stands in specs/. No public function has a `requires`, and none looks past its table.
 ghost use mathlib.Core.Path.{_≡_};
 ghost use Prim.Native.Nat.{_/_, _≤_, _<_};
+ghost use lib.Dec.{leb};
 ghost use lib.ListN.{length, set};
+ghost use Rattle.slots.specs.All.{all};
 ghost use Rattle.slots.specs.Table.{slotSize, isTableLength, storeAt};
 ghost use Rattle.message.specs.Form.{slotOf};
 ghost use Rattle.message.specs.Codec.{readOutcome};
@@ -156,6 +159,19 @@ pub fn set_byte(table: &mut [u8], at: usize, byte: u8)
     if at < table.len() {
         table[at] = byte;
     }
+}
+
+// Whether every byte is a number of two bits, which it is exactly where all bits together are.
+pub fn are_two_bits(bytes: &[u8]) -> bool
+    ensures { λ r. ⌜ r ≡ all (λ b. leb b 3) (now (bytes .entry)) ⌝ }
+{
+    let mut bits = 0;
+    let mut i = 0;
+    while i < bytes.len() {
+        bits = bits | bytes[i];
+        i += 1;
+    }
+    bits <= 3
 }
 
 // Four bytes as one number, the first of them the lowest, so that they are compared in one step.

@@ -1,12 +1,12 @@
 -- From what a role makes of the event to its verdict.
 --     led, is-led                                 an event of a leader: who is one
 --     no-event, on-states, on-votes, on-inbox     what the event comes to: 7, or what its role makes of it
---     leader-part                                 what a leader makes of its part of I
+--     leader-part                                 what a leader makes of its part of I and of the summary
 -- Assumes nothing.
 use Prim.Native.Nat.{ℕ, _≤_, _<_}
 use mathlib.Core.Bool.{Bool, true, false, _&&_}
 use mathlib.Core.List.{List}
-use mathlib.Core.Path.{_≡_, _∙_, ap}
+use mathlib.Core.Path.{_≡_, _∙_, ap, ap₂}
 use lib.Dec.{leb, eqb, ltb}
 use lib.ListN.{length}
 use borrow.Author.Tests.{le-leb, lt-leb, eq-eqb, ne-eqb, ltb-true}
@@ -18,7 +18,7 @@ use Rattle.event.specs.Event.{kindOf, whoOf, highOf, lowOf, whoLimit, areArgume
 use Rattle.change.specs.declared.Change.{Change}
 use Rattle.rm.specs.Rm.{rmVerdict}
 use Rattle.acceptor.specs.Acceptor.{acceptorVerdict}
-use Rattle.leader.specs.Leader.{leaderVerdict}
+use Rattle.leader.specs.Leader.{stands, leaderVerdictBy}
 use Rattle.opening.specs.Opening.{Tables}
 use Rattle.judging.specs.Judging.{inboxOf}
 use Rattle.verdict.specs.Verdict.{leaderOn, recordVerdict}
@@ -51,11 +51,13 @@ module _ (p : Plan) (t : Tables) (e : List ℕ) where
     unfolding recordVerdict refuseIf
     on-votes h k o done = rw (is, ← same, lt-leb kind 2 h, eq-eqb kind 3 k) done
 
-    pub on-inbox : 2 < kind → (kind ≡ 3 → ⊥) → (o : Outcome Change) → o ≡ leaderOn p (t .inboxes) (t .network) e → o ≡ recordVerdict p t e
+    pub on-inbox : 2 < kind → (kind ≡ 3 → ⊥) → (o : Outcome Change) → o ≡ leaderOn p (t .inboxes) (t .summary) (t .network) e → o ≡ recordVerdict p t e
     unfolding recordVerdict refuseIf
     on-inbox h k o done = rw (is, ← same, lt-leb kind 2 h, ne-eqb kind 3 k) done
 
-pub leader-part : (p : Plan) (i n e : List ℕ) (who : ℕ) → who ≡ whoOf e → (o : Outcome Change)
-    → o ≡ leaderVerdict p (viewBytes p (partOf p i who)) (viewBytes p n) e → o ≡ leaderOn p i n e
-leader-part p i n e who same o done =
-    done ∙ ap (λ (b : List ℕ). leaderVerdict p (viewBytes p b) (viewBytes p n) e) (part-is p i who ∙ ap (inboxOf p i) same)
+pub leader-part : (p : Plan) (i s n e : List ℕ) (who : ℕ) → who ≡ whoOf e → (o : Outcome Change)
+    → o ≡ leaderVerdictBy p (stands (partOf p s who)) (viewBytes p (partOf p i who)) (viewBytes p n) e → o ≡ leaderOn p i s n e
+leader-part p i s n e who same o done =
+    done
+    ∙ ap₂ (λ (own b : List ℕ). leaderVerdictBy p (stands own) (viewBytes p b) (viewBytes p n) e)
+    (part-is p s who ∙ ap (inboxOf p s) same) (part-is p i who ∙ ap (inboxOf p i) same)

@@ -1,10 +1,10 @@
 // What an event comes to on an order record, before anything is stored (document 01, "Refusals by place", from row 7 on). Judging a record is the
 // crate `judging`, storing what is accepted the crate `record`. Both functions see only what each role promises, and judge no table.
 //
-//     evaluate_leader   kinds 4 to 8, on the leader's own inbox
+//     evaluate_leader   kinds 4 to 8, on the leader's own inbox and bytes of the summary
 //     evaluate          the event's verdict: that of the role of its kind
 //
-// They are lent W (`states`), Q (`votes`), N (`network`) and I (`inboxes`), of any content and length.
+// They are lent W (`states`), Q (`votes`), N (`network`), I (`inboxes`) and the summary, of any content and length.
 ghost use mathlib.Core.Path.{_≡_};
 ghost use Prim.Native.Nat.{_<_};
 ghost use Rattle.event.specs.Event.{whoOf};
@@ -14,17 +14,27 @@ ghost use Rattle.verdict.specs.Verdict.{leaderOn, recordVerdict};
 use change::Verdict;
 use message::Plan;
 
-// Kinds 4 to 8: what the event comes to on the leader's own inbox, a part of I, and N.
-fn evaluate_leader(plan: Plan, network: &[u8], inboxes: &[u8], event: &[u8]) -> Verdict
+// Kinds 4 to 8: what the event comes to on N, the leader's own inbox, a part of I, and its bytes of the summary, a part likewise.
+fn evaluate_leader(
+    plan: Plan,
+    network: &[u8],
+    inboxes: &[u8],
+    summary: &[u8],
+    event: &[u8],
+) -> Verdict
     requires { ⌜ whoOf (now event) < plan .leaders ⌝ }
-    ensures { λ r. ⌜ verdictOutcome r ≡ leaderOn plan (now (inboxes .entry)) (now (network .entry)) (now (event .entry)) ⌝ }
+    ensures { λ r. ⌜ verdictOutcome r ≡ leaderOn plan (now (inboxes .entry)) (now (summary .entry)) (now (network .entry)) (now (event .entry)) ⌝ }
 {
     let who = message::byte_at(event, 1) as usize;
     let size = inboxes.len() / plan.leaders as usize;
     let from = who * size;
     let to = from + size;
     let inbox = &inboxes[from..to];
-    leader::evaluate(plan, inbox, network, event)
+    let count = summary.len() / plan.leaders as usize;
+    let start = who * count;
+    let end = start + count;
+    let own = &summary[start..end];
+    leader::evaluate(plan, inbox, own, network, event)
 }
 
 // What the event comes to: 7 where it is no event, and then what the role of its kind makes of it. It judges no table.
@@ -34,10 +44,11 @@ pub fn evaluate(
     votes: &[u8],
     network: &[u8],
     inboxes: &[u8],
+    summary: &[u8],
     event: &[u8],
 ) -> Verdict
     ensures { λ r. ⌜ verdictOutcome r ≡
-        recordVerdict plan (tablesOf (now (states .entry)) (now (votes .entry)) (now (network .entry)) (now (inboxes .entry))) (now (event .entry)) ⌝ }
+        recordVerdict plan (tablesOf (now (states .entry)) (now (votes .entry)) (now (network .entry)) (now (inboxes .entry)) (now (summary .entry))) (now (event .entry)) ⌝ }
 {
     if !event::is_event(plan, event) {
         return Verdict::Refused(7);
@@ -49,5 +60,5 @@ pub fn evaluate(
     if kind == 3 {
         return acceptor::evaluate(plan, votes, network, event);
     }
-    evaluate_leader(plan, network, inboxes, event)
+    evaluate_leader(plan, network, inboxes, summary, event)
 }

@@ -8,14 +8,15 @@
 //! same tables and events and must answer the same. Each call is timed by itself, and what it changed is restored
 //! before the next, outside the timing; sixteen calls are a batch, and the smallest of many batches counts, less the
 //! smallest batch of empty timings. The engines take turns batch by batch. In the part `turns` a batch is a call on each of
-//! 96 tables that differ in the messages beside the needed ones, so that no branch on those is foreseen. A list of 256 events is timed as a whole, and
-//! so are its events as single calls one after the other; the smallest of many rounds counts, for an event.
+//! 96 tables that differ in the messages beside the needed ones, so that no branch on those is foreseen. A list of 256
+//! events is timed as a whole, and so are its events as single calls one after the other; the smallest of many rounds counts, for an event.
 
 #[path = "../tests/reference/mod.rs"]
 mod reference;
 
 use paxos_commit::{Answer, Event, Fields, Plan, Refusal, SLOT};
 use std::cell::RefCell;
+use std::collections::HashMap;
 use std::hint::black_box;
 use std::time::{Duration, Instant};
 
@@ -82,6 +83,7 @@ struct Tables {
     votes: Vec<u8>,
     network: Vec<u8>,
     inboxes: Vec<u8>,
+    summary: Vec<u8>,
 }
 
 impl Tables {
@@ -91,6 +93,7 @@ impl Tables {
             votes: vec![0; PLAN.votes_len()],
             network: vec![0; SLOT * SLOTS],
             inboxes: vec![0; PLAN.inboxes_len(SLOTS)],
+            summary: vec![0; PLAN.summary_len()],
         }
     }
 
@@ -99,11 +102,27 @@ impl Tables {
         self.votes.copy_from_slice(&from.votes);
         self.network.copy_from_slice(&from.network);
         self.inboxes.copy_from_slice(&from.inboxes);
+        self.summary.copy_from_slice(&from.summary);
     }
 
     fn inbox(&mut self, leader: u8) -> &mut [u8] {
         let range = PLAN.inbox_range(self.inboxes.len(), leader).unwrap_or(0..0);
         &mut self.inboxes[range]
+    }
+
+    /// The summary becomes what the inboxes say.
+    fn summarise(&mut self) {
+        let inboxes = self.inboxes.chunks_exact(self.inboxes.len() / usize::from(PLAN.leaders));
+        for (inbox, summary) in inboxes.zip(self.summary.chunks_exact_mut(PLAN.leader_summary_len())) {
+            let mut voters = HashMap::new();
+            for slot in inbox.chunks_exact(SLOT).filter(|slot| slot[0] == 0x3B) {
+                let voters: &mut u8 = voters.entry([slot[1], slot[3], slot[4]]).or_default();
+                *voters |= 1 << slot[2];
+                if 2 * voters.count_ones() > PLAN.acceptors.into() {
+                    summary[usize::from(slot[1])] |= slot[4];
+                }
+            }
+        }
     }
 }
 
@@ -144,6 +163,8 @@ struct Kind {
     received: Option<Message>,
     /// The inbox keeps an unused slot.
     appends: bool,
+    /// The acting leader's summary has no bit for weight 15, though its inbox may decide one.
+    clear: bool,
 }
 
 fn kinds() -> Vec<Kind> {
@@ -155,6 +176,7 @@ fn kinds() -> Vec<Kind> {
         sends: None,
         received: None,
         appends: false,
+        clear: false,
     };
     let votes = |acceptors: u8| {
         (0..acceptors).flat_map(|acc| (0..16).map(move |ins| message_2b(ins, acc, 0, 1))).collect::<Vec<_>>()
@@ -162,6 +184,15 @@ fn kinds() -> Vec<Kind> {
     let reports = (0..4).map(|acc| message_1b_vote(3, acc, 13, acc, 1)).collect::<Vec<_>>();
     let aborts = (0..4).map(|acc| message_2b(3, acc, 9, 2)).collect::<Vec<_>>();
     let received = message_1b(3, 2, 20);
+    // Votes for weight 15, which no others decide as prepared.
+    let vote = |acc| message_2b(15, acc, 20, 1);
+    let receipt = |name, acceptors: &[u8]| Kind {
+        takes: Some(vote(2)),
+        received: Some(vote(2)),
+        inbox: acceptors.iter().map(|&acc| vote(acc)).collect(),
+        clear: true,
+        ..kind(name, Event::Receipt { leader: 3, slot: 0 })
+    };
     vec![
         Kind { sends: Some(message_2a(3, 0, 1)), ..kind("0 prepare", Event::Prepare { rm: 3 }) },
         Kind { sends: Some(message_2a(3, 0, 2)), ..kind("1 choose to abort", Event::ChooseToAbort { rm: 3 }) },
@@ -179,8 +210,11 @@ fn kinds() -> Vec<Kind> {
         Kind {
             takes: Some(received),
             received: Some(received),
-            ..kind("4 receipt", Event::Receipt { leader: 3, slot: 0 })
+            ..kind("4 receipt of a 1b", Event::Receipt { leader: 3, slot: 0 })
         },
+        receipt("4 receipt of a 2b, bit clear", &[0, 1]),
+        receipt("4 receipt of a 2b that decides", &[0, 1, 3]),
+        Kind { clear: false, ..receipt("4 receipt of a 2b, bit set", &[0, 1, 3, 4]) },
         Kind { sends: Some(message_1a(3, 13)), ..kind("5 phase 1a", Event::Phase1a { leader: 0, ins: 3, bal: 13 }) },
         Kind {
             inbox: reports,
@@ -197,14 +231,23 @@ fn kinds() -> Vec<Kind> {
     ]
 }
 
+/// Weight 15 is never decided as prepared by the other messages, so that Commit needs the votes that an event asks for,
+/// and a receipt finds its bit clear.
+fn not_15(mut message: Message) -> Message {
+    if message[..2] == [0x3B, 15] {
+        message[4] = 2;
+    }
+    message
+}
+
 /// The first messages anywhere among the others; N keeps slot 0 for the message that is taken.
 fn fill(random: &mut Random, row: &mut [u8], first: &[Message], used: usize, last: Option<Message>, votes: bool) {
     let mut list = first.to_vec();
     while list.len() < used {
         let (ins, acc, bal) = (random.byte(16), random.byte(7), 1 + random.byte(8));
-        // Weight 15 is never decided as prepared by these, so that Commit needs the votes that an event asks for.
-        let val = if ins == 15 { 2 } else { 1 + random.byte(2) };
-        list.push(if votes { message_2b(ins, acc, bal, val) } else { random.message() });
+        let val = 1 + random.byte(2);
+        let message = if votes { message_2b(ins, acc, bal, val) } else { random.message() };
+        list.push(not_15(message));
     }
     if first.len() > 1 {
         for at in (1..list.len()).rev() {
@@ -259,7 +302,17 @@ fn tables(kind: &Kind, level: Level, turn: u64) -> Tables {
             vote.copy_from_slice(&[val, val, val]);
         }
     }
+    tables.summarise();
+    if kind.clear {
+        tables.summary[PLAN.summary_range(acting).unwrap_or(0..16)][15] = 0;
+    }
     tables
+}
+
+/// What a leader's own call is lent: its inbox and its part of the summary.
+fn lent<'a>(leader: u8, inboxes: &'a mut [u8], summary: &'a mut [u8]) -> (&'a mut [u8], &'a mut [u8]) {
+    let (inbox, own) = (SLOT * SLOTS * usize::from(leader), 16 * usize::from(leader));
+    (&mut inboxes[inbox..inbox + SLOT * SLOTS], &mut summary[own..own + 16])
 }
 
 /// Which call, and on which engine.
@@ -273,14 +326,15 @@ fn linked(own: bool, tables: &mut Tables, event: &[u8; 4]) -> Result<Answer, Ref
             &mut tables.votes,
             &mut tables.network,
             &mut tables.inboxes,
+            &mut tables.summary,
             event,
         ),
         (true, 0..=2) => paxos_commit::rm_step(plan, &mut tables.states, &mut tables.network, event),
         (true, 3) => paxos_commit::acceptor_step(plan, &mut tables.votes, &mut tables.network, event),
         (true, _) => {
-            let inbox = SLOT * SLOTS * usize::from(event[1]);
-            let inbox = &mut tables.inboxes[inbox..inbox + SLOT * SLOTS];
-            paxos_commit::leader_step(plan, inbox, &mut tables.network, event)
+            let Tables { network, inboxes, summary, .. } = tables;
+            let (inbox, summary) = lent(event[1], inboxes, summary);
+            paxos_commit::leader_step(plan, inbox, summary, network, event)
         }
     }
 }
@@ -295,14 +349,15 @@ fn by_hand(own: bool, tables: &mut Tables, event: &[u8; 4]) -> Result<reference:
             &mut tables.votes,
             &mut tables.network,
             &mut tables.inboxes,
+            &mut tables.summary,
             event,
         ),
         (true, 0..=2) => reference::rm_step(plan, &mut tables.states, &mut tables.network, event),
         (true, 3) => reference::acceptor_step(plan, &mut tables.votes, &mut tables.network, event),
         (true, _) => {
-            let inbox = SLOT * SLOTS * usize::from(event[1]);
-            let inbox = &mut tables.inboxes[inbox..inbox + SLOT * SLOTS];
-            reference::leader_step(plan, inbox, &mut tables.network, event)
+            let Tables { network, inboxes, summary, .. } = tables;
+            let (inbox, summary) = lent(event[1], inboxes, summary);
+            reference::leader_step(plan, inbox, summary, network, event)
         }
     }
 }
@@ -325,8 +380,8 @@ fn length_by_hand(map: u8) -> usize {
 
 #[inline(never)]
 fn open_by_hand(plan: reference::Plan, tables: &mut Tables) -> Result<(), u8> {
-    let Tables { states, votes, network, inboxes } = tables;
-    reference::open(plan, states, votes, network, inboxes)
+    let Tables { states, votes, network, inboxes, summary } = tables;
+    reference::open(plan, states, votes, network, inboxes, summary)
 }
 
 #[inline(never)]
@@ -519,6 +574,8 @@ struct Row {
     sought_in_inbox: bool,
     /// Unused slots that each inbox keeps.
     room: usize,
+    /// Every byte of the summary, where it is not what the inboxes say.
+    summary: Option<u8>,
     /// The first of these 256 times; or all of them, in any order.
     events: Vec<Wanted>,
     /// Where not 0, each is accepted once only, so none comes twice: the list is all of them, so many in any order, then
@@ -535,6 +592,7 @@ fn rows(full: bool) -> Vec<Row> {
         sought: Vec::new(),
         sought_in_inbox: false,
         room: 0,
+        summary: None,
         events,
         once: 0,
     };
@@ -560,6 +618,9 @@ fn rows(full: bool) -> Vec<Row> {
     let risen: Vec<Wanted> = rising.iter().flat_map(voted).collect();
     let came: Vec<Message> =
         weights().flat_map(|ins| [message_1b(ins, 2, 20), message_2b(ins, 5, 21, 1 + ins % 2)]).collect();
+    let decided: Vec<Message> = weights().map(|ins| message_2b(ins, 5, 21, 1 + ins % 2)).collect();
+    // Weight 15, so that no bit is set.
+    let open: Vec<Message> = (0..16).map(|k| message_2b(15, k % 7, 21 + k, 1)).collect();
     // A leader's instances and ballots.
     let owned = |leader: u8, count: u8| (0..count).map(move |k| ((k + 3) % 16, 13 + 4 * (k / 16) + leader));
     let leading = |count: u8, event: fn(u8, u8, u8) -> Event| {
@@ -600,6 +661,19 @@ fn rows(full: bool) -> Vec<Row> {
             sought: came.clone(),
             sought_in_inbox: true,
             ..row("4 receipt, in the inbox", pairs(4, &came, 4))
+        },
+        Row {
+            network: open.clone(),
+            sought: open.clone(),
+            sought_in_inbox: true,
+            ..row("4 receipt of a 2b in the inbox, bit clear", pairs(4, &open, 4))
+        },
+        Row {
+            network: decided.clone(),
+            sought: decided.clone(),
+            sought_in_inbox: true,
+            summary: Some(3),
+            ..row("4 receipt of a 2b in the inbox, bit set", pairs(4, &decided, 4))
         },
         Row { network: came.clone(), ..row("4 receipt", pairs(4, &came, 4)) },
         Row { sought: sent(16, message_1a), ..row("5 phase 1a, in N", plain(leading(16, phase_1a))) },
@@ -645,6 +719,7 @@ fn mixed() -> Vec<Row> {
             sought: Vec::new(),
             sought_in_inbox: false,
             room: 0,
+            summary: None,
             events: Vec::new(),
             once: 0,
         };
@@ -695,7 +770,7 @@ fn scene(row: &Row, slots: usize, full: bool, changing: bool) -> (Tables, Vec<u8
         let mut list: Vec<Message> = needed.to_vec();
         list.extend(sought);
         while full && list.len() < slots - room {
-            list.push(random.message());
+            list.push(not_15(random.message()));
         }
         for at in (1..list.len()).rev() {
             list.swap(at, random.below(at + 1));
@@ -719,6 +794,10 @@ fn scene(row: &Row, slots: usize, full: bool, changing: bool) -> (Tables, Vec<u8
         for (at, vote) in tables.votes.chunks_exact_mut(3).enumerate() {
             vote.fill((at % 3) as u8);
         }
+    }
+    match row.summary {
+        Some(byte) => tables.summary.fill(byte),
+        None => tables.summarise(),
     }
     let mut bytes_of = |event: &Wanted| match event {
         Wanted::Plain(event) => event.bytes(),
@@ -747,9 +826,9 @@ fn scene(row: &Row, slots: usize, full: bool, changing: bool) -> (Tables, Vec<u8
 }
 
 fn linked_list(tables: &mut Tables, events: &[u8], answers: &mut [u8]) -> u8 {
-    let Tables { states, votes, network, inboxes } = tables;
+    let Tables { states, votes, network, inboxes, summary } = tables;
     let (plan, events) = (*black_box(&PLAN), black_box(events));
-    paxos_commit::run(plan, states, votes, network, inboxes, events, answers).err().map_or(0, Refusal::number)
+    paxos_commit::run(plan, states, votes, network, inboxes, summary, events, answers).err().map_or(0, Refusal::number)
 }
 
 fn linked_singles(tables: &mut Tables, events: &[u8], answers: &mut [u8]) -> u8 {
@@ -761,9 +840,9 @@ fn linked_singles(tables: &mut Tables, events: &[u8], answers: &mut [u8]) -> u8 
 
 #[inline(never)]
 fn list_by_hand(tables: &mut Tables, events: &[u8], answers: &mut [u8]) -> u8 {
-    let Tables { states, votes, network, inboxes } = tables;
+    let Tables { states, votes, network, inboxes, summary } = tables;
     let (plan, events) = (*black_box(&REFERENCE_PLAN), black_box(events));
-    reference::run(plan, states, votes, network, inboxes, events, answers).err().unwrap_or(0)
+    reference::run(plan, states, votes, network, inboxes, summary, events, answers).err().unwrap_or(0)
 }
 
 /// Nanoseconds for an event of a list: as linked single calls, as the linked list, as the list by hand; and what was
@@ -959,8 +1038,8 @@ impl Report {
         let tables = RefCell::new(Tables::fresh());
         let times = time_plain(
             || {
-                let Tables { states, votes, network, inboxes } = &mut *tables.borrow_mut();
-                paxos_commit::open(*black_box(&PLAN), states, votes, network, inboxes)
+                let Tables { states, votes, network, inboxes, summary } = &mut *tables.borrow_mut();
+                paxos_commit::open(*black_box(&PLAN), states, votes, network, inboxes, summary)
             },
             || open_by_hand(*black_box(&REFERENCE_PLAN), &mut tables.borrow_mut()),
         );

@@ -58,7 +58,7 @@ mod tests {
 
     #[test]
     fn numbers_outside_the_contract() {
-        for code in [1024, 65534, 65536, 65536 + 20, 65536 + 256 + 1, u32::MAX] {
+        for code in [1024, 65534, 65536, 65536 + 21, 65536 + 256 + 1, u32::MAX] {
             assert!(std::panic::catch_unwind(|| Answer::of(code)).is_err(), "{code}");
         }
     }

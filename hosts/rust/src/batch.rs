@@ -1,4 +1,4 @@
-//! The list call: a backlog of events on the four tables of a record.
+//! The list call: a backlog of events on the five tables of a record.
 
 use crate::answer::refused;
 use crate::{Plan, Refusal, ffi};
@@ -8,25 +8,28 @@ use crate::{Plan, Refusal, ffi};
 /// Answers and tables are those of [`step`](crate::step) for one event after the other; what a step would answer beside
 /// it, the slot, is not told.
 ///
-/// The whole list is refused, and no byte of tables or answers changes, with any up to `BadInbox`, or with `BadList`
-/// where the events are not whole or `answers` has not a byte for each. A list may be empty, and of any length.
+/// The whole list is refused, and no byte of tables or answers changes, with any up to `BadInbox`, with `BadList` where
+/// the events are not whole or `answers` has not a byte for each, or with `BadSummary`. A list may be empty, and of any
+/// length.
 ///
 /// ```
 /// use paxos_commit::{Plan, Refusal, run};
 ///
 /// let plan = Plan { rms: 1, acceptors: 1, leaders: 1, order: 0 };
-/// let (mut w, mut q, mut n, mut i) = ([0; 1], [0; 3], [0; 64], [0; 64]);
+/// let (mut w, mut q, mut n, mut i, mut s) = ([0; 1], [0; 3], [0; 64], [0; 64], [0; 1]);
 /// let events = [[0, 0, 0, 0], [1, 0, 0, 0], [3, 0, 0, 0]];
 /// let mut answers = [0xAA; 3];
-/// assert_eq!(run(plan, &mut w, &mut q, &mut n, &mut i, events.as_flattened(), &mut answers), Ok(()));
+/// let mut list = |events: &[u8], answers: &mut [u8]| run(plan, &mut w, &mut q, &mut n, &mut i, &mut s, events, answers);
+/// assert_eq!(list(events.as_flattened(), &mut answers), Ok(()));
 /// assert_eq!(answers, [0, 12, 0]);
 /// assert_eq!(answers.map(Refusal::from_number), [None, Some(Refusal::NotEnabled), None]);
 ///
 /// // A cut list: nothing happens.
 /// let cut = &events.as_flattened()[..11];
-/// assert_eq!(run(plan, &mut w, &mut q, &mut n, &mut i, cut, &mut answers), Err(Refusal::BadList));
+/// assert_eq!(list(cut, &mut answers), Err(Refusal::BadList));
 /// assert_eq!(answers, [0, 12, 0]);
 /// ```
+#[allow(clippy::too_many_arguments)]
 #[inline]
 pub fn run(
     plan: Plan,
@@ -34,10 +37,11 @@ pub fn run(
     votes: &mut [u8],
     network: &mut [u8],
     inboxes: &mut [u8],
+    summary: &mut [u8],
     events: &[u8],
     answers: &mut [u8],
 ) -> Result<(), Refusal> {
-    match ffi::run(plan, states, votes, network, inboxes, events, answers) {
+    match ffi::run(plan, states, votes, network, inboxes, summary, events, answers) {
         0 => Ok(()),
         number => Err(refused(number.into())),
     }

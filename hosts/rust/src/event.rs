@@ -29,7 +29,8 @@ pub enum Event {
         /// The slot.
         slot: u16,
     },
-    /// Kind 4: a leader takes the 1b or 2b in a slot of N into its inbox. Quiet.
+    /// Kind 4: a leader takes the 1b or 2b in a slot of N into its inbox. Quiet. A 2b for a value that the inbox then
+    /// decides sets that value's bit in its summary.
     Receipt {
         /// The leader.
         leader: u8,
@@ -54,12 +55,12 @@ pub enum Event {
         /// The ballot.
         bal: u8,
     },
-    /// Kind 7: a leader sends Commit, when its inbox decides all instances as prepared.
+    /// Kind 7: a leader sends Commit, when its summary has all instances as prepared.
     Commit {
         /// The leader.
         leader: u8,
     },
-    /// Kind 8: a leader sends Abort, when its inbox decides some instance as aborted.
+    /// Kind 8: a leader sends Abort, when its summary has some instance as aborted.
     Abort {
         /// The leader.
         leader: u8,

@@ -17,7 +17,7 @@
 ))]
 use crate::plan::Plan;
 
-#[cfg(any(feature = "rm", feature = "acceptor", feature = "leader"))]
+#[cfg(any(feature = "rm", feature = "acceptor"))]
 type RoleStep = unsafe extern "C" fn(u8, u8, u8, u16, *mut u8, usize, *mut u8, usize, *const u8, usize) -> u32;
 
 unsafe extern "C" {
@@ -89,6 +89,8 @@ unsafe extern "C" {
         order: u16,
         inbox: *mut u8,
         inbox_len: usize,
+        summary: *mut u8,
+        summary_len: usize,
         network: *mut u8,
         network_len: usize,
         event: *const u8,
@@ -109,6 +111,8 @@ unsafe extern "C" {
         network_len: usize,
         inboxes: *mut u8,
         inboxes_len: usize,
+        summary: *mut u8,
+        summary_len: usize,
     ) -> u8;
 
     #[cfg(feature = "record")]
@@ -125,6 +129,8 @@ unsafe extern "C" {
         network_len: usize,
         inboxes: *mut u8,
         inboxes_len: usize,
+        summary: *mut u8,
+        summary_len: usize,
         event: *const u8,
         event_len: usize,
     ) -> u32;
@@ -153,6 +159,8 @@ unsafe extern "C" {
         network_len: usize,
         inboxes: *mut u8,
         inboxes_len: usize,
+        summary: *mut u8,
+        summary_len: usize,
         events: *const u8,
         events_len: usize,
         answers: *mut u8,
@@ -201,11 +209,11 @@ pub fn deliver(plan: Plan, network: &mut [u8], bytes: &[u8]) -> u32 {
     }
 }
 
-#[cfg(any(feature = "rm", feature = "acceptor", feature = "leader"))]
+#[cfg(any(feature = "rm", feature = "acceptor"))]
 #[inline(always)]
 fn role_step(call: RoleStep, plan: Plan, table: &mut [u8], network: &mut [u8], event: &[u8]) -> u32 {
-    // SAFETY: `call` is one of the three steps of a role below. Three slices, of which the two that may be written
-    // overlap nothing.
+    // SAFETY: `call` is one of the next two, a weight's step or an acceptor's. Three slices, of which the two that may be
+    // written overlap nothing.
     unsafe {
         call(
             plan.rms,
@@ -236,14 +244,37 @@ pub fn acceptor_step(plan: Plan, votes: &mut [u8], network: &mut [u8], event: &[
 
 #[cfg(feature = "leader")]
 #[inline]
-pub fn leader_step(plan: Plan, inbox: &mut [u8], network: &mut [u8], event: &[u8]) -> u32 {
-    role_step(paxos_commit_leader_step, plan, inbox, network, event)
+pub fn leader_step(plan: Plan, inbox: &mut [u8], summary: &mut [u8], network: &mut [u8], event: &[u8]) -> u32 {
+    // SAFETY: four slices, of which the three that may be written overlap nothing.
+    unsafe {
+        paxos_commit_leader_step(
+            plan.rms,
+            plan.acceptors,
+            plan.leaders,
+            plan.order,
+            inbox.as_mut_ptr(),
+            inbox.len(),
+            summary.as_mut_ptr(),
+            summary.len(),
+            network.as_mut_ptr(),
+            network.len(),
+            event.as_ptr(),
+            event.len(),
+        )
+    }
 }
 
 #[cfg(feature = "record")]
 #[inline]
-pub fn open(plan: Plan, states: &mut [u8], votes: &mut [u8], network: &mut [u8], inboxes: &mut [u8]) -> u8 {
-    // SAFETY: four slices that overlap nothing.
+pub fn open(
+    plan: Plan,
+    states: &mut [u8],
+    votes: &mut [u8],
+    network: &mut [u8],
+    inboxes: &mut [u8],
+    summary: &mut [u8],
+) -> u8 {
+    // SAFETY: five slices that overlap nothing.
     unsafe {
         paxos_commit_open(
             plan.rms,
@@ -258,6 +289,8 @@ pub fn open(plan: Plan, states: &mut [u8], votes: &mut [u8], network: &mut [u8],
             network.len(),
             inboxes.as_mut_ptr(),
             inboxes.len(),
+            summary.as_mut_ptr(),
+            summary.len(),
         )
     }
 }
@@ -270,9 +303,10 @@ pub fn step(
     votes: &mut [u8],
     network: &mut [u8],
     inboxes: &mut [u8],
+    summary: &mut [u8],
     event: &[u8],
 ) -> u32 {
-    // SAFETY: five slices, of which the four that may be written overlap nothing.
+    // SAFETY: six slices, of which the five that may be written overlap nothing.
     unsafe {
         paxos_commit_step(
             plan.rms,
@@ -287,6 +321,8 @@ pub fn step(
             network.len(),
             inboxes.as_mut_ptr(),
             inboxes.len(),
+            summary.as_mut_ptr(),
+            summary.len(),
             event.as_ptr(),
             event.len(),
         )
@@ -301,6 +337,7 @@ pub fn ending(plan: Plan, states: &[u8]) -> u32 {
 }
 
 #[cfg(feature = "batch")]
+#[allow(clippy::too_many_arguments)]
 #[inline]
 pub fn run(
     plan: Plan,
@@ -308,10 +345,11 @@ pub fn run(
     votes: &mut [u8],
     network: &mut [u8],
     inboxes: &mut [u8],
+    summary: &mut [u8],
     events: &[u8],
     answers: &mut [u8],
 ) -> u8 {
-    // SAFETY: six slices, of which the five that may be written overlap nothing.
+    // SAFETY: seven slices, of which the six that may be written overlap nothing.
     unsafe {
         paxos_commit_run(
             plan.rms,
@@ -326,6 +364,8 @@ pub fn run(
             network.len(),
             inboxes.as_mut_ptr(),
             inboxes.len(),
+            summary.as_mut_ptr(),
+            summary.len(),
             events.as_ptr(),
             events.len(),
             answers.as_mut_ptr(),

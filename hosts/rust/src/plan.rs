@@ -55,6 +55,25 @@ impl Plan {
         Some(from..from + len)
     }
 
+    /// The length of the summary: a byte for each leader and instance.
+    pub const fn summary_len(self) -> usize {
+        self.rms as usize * self.leaders as usize
+    }
+
+    /// The length of a leader's part of the summary, which its own call is lent: a byte for each instance.
+    pub const fn leader_summary_len(self) -> usize {
+        self.rms as usize
+    }
+
+    /// Where leader `leader`'s part of the summary stands; `None` for a number that is no leader's.
+    pub const fn summary_range(self, leader: u8) -> Option<Range<usize>> {
+        if leader >= self.leaders {
+            return None;
+        }
+        let from = leader as usize * self.rms as usize;
+        Some(from..from + self.rms as usize)
+    }
+
     /// Where mbal, bal and val of an acceptor for an instance stand in Q; `None` outside the plan.
     pub const fn vote_range(self, ins: u8, acceptor: u8) -> Option<Range<usize>> {
         if ins >= self.rms || acceptor >= self.acceptors {

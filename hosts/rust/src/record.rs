@@ -1,4 +1,4 @@
-//! The record: the four tables together, opening them, the event call of all nine kinds, how the order stands, and with the
+//! The record: the five tables together, opening them, the event call of all nine kinds, how the order stands, and with the
 //! feature `batch` the list call.
 
 use crate::answer::refused;
@@ -10,8 +10,8 @@ mod list;
 #[cfg(feature = "batch")]
 pub use list::Answers;
 
-/// Opens a record on lent tables: every byte becomes 0. It refuses `BadPlan` and `BadLengths`, and looks at
-/// nothing else.
+/// Opens a record on lent tables: every byte becomes 0. It refuses `BadPlan`, `BadLengths` and, for the summary's length,
+/// `BadSummary`, and looks at nothing else.
 #[inline]
 pub fn open(
     plan: Plan,
@@ -19,14 +19,15 @@ pub fn open(
     votes: &mut [u8],
     network: &mut [u8],
     inboxes: &mut [u8],
+    summary: &mut [u8],
 ) -> Result<(), Refusal> {
-    match ffi::open(plan, states, votes, network, inboxes) {
+    match ffi::open(plan, states, votes, network, inboxes, summary) {
         0 => Ok(()),
         number => Err(refused(number.into())),
     }
 }
 
-/// The event call on lent tables. Refusals: all up to `InboxFull`.
+/// The event call on lent tables. Refusals: all up to `InboxFull`, and `BadSummary`, which comes after `BadInbox`.
 #[inline]
 pub fn step(
     plan: Plan,
@@ -34,9 +35,10 @@ pub fn step(
     votes: &mut [u8],
     network: &mut [u8],
     inboxes: &mut [u8],
+    summary: &mut [u8],
     event: &[u8],
 ) -> Result<Answer, Refusal> {
-    Answer::of(ffi::step(plan, states, votes, network, inboxes, event))
+    Answer::of(ffi::step(plan, states, votes, network, inboxes, summary, event))
 }
 
 /// How an order stands. Numbered as a [`Decision`](crate::Decision) is.
@@ -75,18 +77,20 @@ pub fn ending(plan: Plan, states: &[u8]) -> Result<Ending, Refusal> {
     }
 }
 
-/// A plan and the four tables of its record, owned (`Record<Vec<u8>>`) or borrowed (`Record<&mut [u8]>`).
+/// A plan and the five tables of its record, owned (`Record<Vec<u8>>`) or borrowed (`Record<&mut [u8]>`).
 ///
 /// ```
 /// use paxos_commit::{slots_len, Answer, Event, Plan, Record, Refusal};
 ///
 /// let plan = Plan { rms: 3, acceptors: 3, leaders: 2, order: 0 };
-/// let mut buffer = vec![0xAA; plan.states_len() + plan.votes_len() + slots_len(32) + plan.inboxes_len(16)];
+/// let slots = slots_len(32) + plan.inboxes_len(16);
+/// let mut buffer = vec![0xAA; plan.states_len() + plan.votes_len() + slots + plan.summary_len()];
 /// let (states, rest) = buffer.split_at_mut(plan.states_len());
 /// let (votes, rest) = rest.split_at_mut(plan.votes_len());
-/// let (network, inboxes) = rest.split_at_mut(slots_len(32));
+/// let (network, rest) = rest.split_at_mut(slots_len(32));
+/// let (inboxes, summary) = rest.split_at_mut(plan.inboxes_len(16));
 ///
-/// let mut record = Record::of(plan, states, votes, network, inboxes);
+/// let mut record = Record::of(plan, states, votes, network, inboxes, summary);
 /// assert_eq!(record.step(Event::Prepare { rm: 2 }), Err(Refusal::BadStates)); // not opened: 0xAA is no state
 /// record.open()?;
 /// assert_eq!(record.step(Event::Prepare { rm: 2 }), Ok(Answer::Slot(0)));
@@ -100,6 +104,7 @@ pub struct Record<T = Vec<u8>> {
     votes: T,
     network: T,
     inboxes: T,
+    summary: T,
 }
 
 impl Record {
@@ -119,6 +124,7 @@ impl Record {
             vec![0; plan.votes_len()],
             vec![0; slots_len(network_slots.min(most))],
             vec![0; plan.inboxes_len(inbox_slots.min(most))],
+            vec![0; plan.summary_len()],
         );
         record.open()?;
         Ok(record)
@@ -127,14 +133,21 @@ impl Record {
 
 impl<T: AsRef<[u8]> + AsMut<[u8]>> Record<T> {
     /// A record on tables as they are, for instance as they were kept on disk. Nothing is looked at here: each step
-    /// judges all four tables.
-    pub const fn of(plan: Plan, states: T, votes: T, network: T, inboxes: T) -> Record<T> {
-        Record { plan, states, votes, network, inboxes }
+    /// judges all five tables.
+    pub const fn of(plan: Plan, states: T, votes: T, network: T, inboxes: T, summary: T) -> Record<T> {
+        Record { plan, states, votes, network, inboxes, summary }
     }
 
-    /// Opens the record: every byte becomes 0, or it refuses `BadPlan` or `BadLengths`.
+    /// Opens the record: every byte becomes 0, or it refuses `BadPlan`, `BadLengths` or `BadSummary`.
     pub fn open(&mut self) -> Result<(), Refusal> {
-        open(self.plan, self.states.as_mut(), self.votes.as_mut(), self.network.as_mut(), self.inboxes.as_mut())
+        open(
+            self.plan,
+            self.states.as_mut(),
+            self.votes.as_mut(),
+            self.network.as_mut(),
+            self.inboxes.as_mut(),
+            self.summary.as_mut(),
+        )
     }
 
     /// The event call.
@@ -146,7 +159,15 @@ impl<T: AsRef<[u8]> + AsMut<[u8]>> Record<T> {
     /// The event call on any bytes.
     #[inline]
     pub fn step_bytes(&mut self, event: &[u8]) -> Result<Answer, Refusal> {
-        step(self.plan, self.states.as_mut(), self.votes.as_mut(), self.network.as_mut(), self.inboxes.as_mut(), event)
+        step(
+            self.plan,
+            self.states.as_mut(),
+            self.votes.as_mut(),
+            self.network.as_mut(),
+            self.inboxes.as_mut(),
+            self.summary.as_mut(),
+            event,
+        )
     }
 
     /// The plan that each call is given.
@@ -174,6 +195,13 @@ impl<T: AsRef<[u8]> + AsMut<[u8]>> Record<T> {
         self.inboxes.as_ref()
     }
 
+    /// The summary: a byte for each leader and instance, [`Plan::summary_range`]. It has the bit
+    /// [`Value::Prepared`](crate::Value::Prepared), 1, where that leader's inbox decides prepared for the instance, and
+    /// the bit [`Value::Aborted`](crate::Value::Aborted), 2, where it decides aborted: so it is from opening on.
+    pub fn summary(&self) -> &[u8] {
+        self.summary.as_ref()
+    }
+
     /// The eight bytes of a slot of N: a message followed by zeros, or eight zeros; `None` beyond N.
     pub fn slot(&self, slot: u16) -> Option<[u8; SLOT]> {
         self.network().as_chunks().0.get(usize::from(slot)).copied()
@@ -185,8 +213,8 @@ impl<T: AsRef<[u8]> + AsMut<[u8]>> Record<T> {
         ending(self.plan, self.states())
     }
 
-    /// W, Q, N and I.
-    pub fn into_tables(self) -> [T; 4] {
-        [self.states, self.votes, self.network, self.inboxes]
+    /// W, Q, N, I and the summary.
+    pub fn into_tables(self) -> [T; 5] {
+        [self.states, self.votes, self.network, self.inboxes, self.summary]
     }
 }

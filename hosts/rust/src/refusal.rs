@@ -2,8 +2,8 @@
 
 use core::fmt;
 
-/// Why a call was refused: of the reasons that apply, the one with the lowest number. A refused call has changed no
-/// byte. The C header has the same names; docs/HOSTS.md says what a host does about each.
+/// Why a call was refused: of the reasons that apply, the first in the order 1 to 6, 19, 20, 7 to 18. A refused call has
+/// changed no byte. The C header has the same names; docs/HOSTS.md says what a host does about each.
 #[derive(Clone, Copy, Debug, PartialEq, Eq, PartialOrd, Ord, Hash)]
 #[repr(u8)]
 pub enum Refusal {
@@ -47,11 +47,13 @@ pub enum Refusal {
     OtherOrder = 18,
     /// 19: a list that is not whole events, or has not one byte of answers for each.
     BadList = 19,
+    /// 20: a summary whose length is not the plan's, or, except at opening, a byte of it above 3. It comes before 7.
+    BadSummary = 20,
 }
 
 impl Refusal {
     /// All refusals, by number.
-    pub const ALL: [Refusal; 19] = [
+    pub const ALL: [Refusal; 20] = [
         Refusal::BadPlan,
         Refusal::BadLengths,
         Refusal::BadStates,
@@ -71,14 +73,15 @@ impl Refusal {
         Refusal::OutOfRange,
         Refusal::OtherOrder,
         Refusal::BadList,
+        Refusal::BadSummary,
     ];
 
-    /// The number in documents 01 and 02, 1 to 19.
+    /// The number in documents 01 and 02, 1 to 20.
     pub const fn number(self) -> u8 {
         self as u8
     }
 
-    /// The refusal with this number; `None` for 0 and for numbers above 19.
+    /// The refusal with this number; `None` for 0 and for numbers above 20.
     #[inline]
     pub const fn from_number(number: u8) -> Option<Refusal> {
         // One arm for each, since the compiler sees then that a refusal is its number.
@@ -102,6 +105,7 @@ impl Refusal {
             17 => Refusal::OutOfRange,
             18 => Refusal::OtherOrder,
             19 => Refusal::BadList,
+            20 => Refusal::BadSummary,
             _ => return None,
         })
     }
@@ -129,6 +133,7 @@ impl fmt::Display for Refusal {
             Refusal::OutOfRange => "a field of the message is out of range",
             Refusal::OtherOrder => "the message is of another order",
             Refusal::BadList => "the list is not whole events with an answer each",
+            Refusal::BadSummary => "the summary does not fit the plan, or holds a byte above 3",
         };
         write!(f, "{words} ({})", self.number())
     }

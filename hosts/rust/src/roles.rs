@@ -50,26 +50,35 @@ pub fn acceptor_step(plan: Plan, votes: &mut [u8], network: &mut [u8], event: &[
     Answer::of(ffi::acceptor_step(plan, votes, network, event))
 }
 
-/// The step of a leader: events of kinds 4 to 8. `inbox` is this leader's inbox alone; nothing ties it to the leader
-/// that the event names, which is the host's to see to.
+/// The step of a leader: events of kinds 4 to 8. `inbox` is this leader's inbox alone, and `summary` its part of the
+/// summary, a byte for each instance; nothing ties them to the leader that the event names, nor to each other, which is
+/// the host's to see to. `Commit` and `Abort` read the summary alone, as it is.
 ///
-/// Refusals: `BadPlan`, `BadLengths`, `BadNetwork`, `BadInbox`, `BadEvent`, `NoMessage`, `WrongRole`, `NotOwned`,
-/// `NotEnabled`, `NetworkFull`, `InboxFull`.
+/// Refusals, in this order: `BadPlan`, `BadLengths`, `BadNetwork`, `BadInbox`, `BadSummary`, `BadEvent`, `NoMessage`,
+/// `WrongRole`, `NotOwned`, `NotEnabled`, `NetworkFull`, `InboxFull`.
 ///
 /// ```
 /// use paxos_commit::{leader_step, slots_len, Answer, Event, Plan, Refusal};
 ///
 /// let plan = Plan { rms: 1, acceptors: 1, leaders: 2, order: 7 };
-/// let (mut inbox, mut network) = (vec![0; slots_len(64)], vec![0; slots_len(64)]);
+/// let (mut inbox, mut summary) = (vec![0; slots_len(64)], vec![0; plan.leader_summary_len()]);
+/// let mut network = vec![0; slots_len(64)];
 /// network[..7].copy_from_slice(&[0x3B, 0, 0, 0, 1, 0, 7]); // 2b: acceptor 0 votes prepared at ballot 0
-/// let mut step = |event: Event| leader_step(plan, &mut inbox, &mut network, &event.bytes());
+/// let mut step = |event: Event| leader_step(plan, &mut inbox, &mut summary, &mut network, &event.bytes());
 /// assert_eq!(step(Event::Commit { leader: 1 }), Err(Refusal::NotEnabled));
-/// assert_eq!(step(Event::Receipt { leader: 1, slot: 0 }), Ok(Answer::Quiet));
+/// assert_eq!(step(Event::Receipt { leader: 1, slot: 0 }), Ok(Answer::Quiet)); // sets bit 0 of byte 0
 /// assert_eq!(step(Event::Commit { leader: 1 }), Ok(Answer::Slot(1)));
 /// assert_eq!(step(Event::Phase1a { leader: 1, ins: 0, bal: 1 }), Err(Refusal::NotOwned));
+/// assert_eq!(summary, [1]);
 /// ```
 #[cfg(feature = "leader")]
 #[inline]
-pub fn leader_step(plan: Plan, inbox: &mut [u8], network: &mut [u8], event: &[u8]) -> Result<Answer, Refusal> {
-    Answer::of(ffi::leader_step(plan, inbox, network, event))
+pub fn leader_step(
+    plan: Plan,
+    inbox: &mut [u8],
+    summary: &mut [u8],
+    network: &mut [u8],
+    event: &[u8],
+) -> Result<Answer, Refusal> {
+    Answer::of(ffi::leader_step(plan, inbox, summary, network, event))
 }

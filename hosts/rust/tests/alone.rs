@@ -40,7 +40,7 @@ fn acceptor() {
 #[cfg(feature = "leader")]
 #[test]
 fn leader() {
-    assert_eq!(leader_step(ONE, &mut [], &mut [0; 8], &[5, 0, 0, 1]), Ok(Answer::Slot(0)));
+    assert_eq!(leader_step(ONE, &mut [], &mut [0], &mut [0; 8], &[5, 0, 0, 1]), Ok(Answer::Slot(0)));
 }
 
 #[cfg(feature = "record")]
@@ -54,11 +54,12 @@ fn record() {
 #[cfg(feature = "batch")]
 #[test]
 fn batch() {
-    let (mut states, mut network, mut answers) = ([0], [0; 8], [0xAA; 3]);
+    let (mut states, mut votes, mut network, mut summary, mut answers) = ([0], [0; 3], [0; 8], [0], [0xAA; 3]);
     let events = [Event::Vote { acceptor: 0, slot: 0 }, Event::ChooseToAbort { rm: 0 }, Event::Prepare { rm: 0 }];
     let events = events.map(Event::bytes);
-    let mut list =
-        |events: &[u8], answers: &mut [u8]| run(ONE, &mut states, &mut [0; 3], &mut network, &mut [], events, answers);
+    let mut list = |events: &[u8], answers: &mut [u8]| {
+        run(ONE, &mut states, &mut votes, &mut network, &mut [], &mut summary, events, answers)
+    };
     assert_eq!(list(events.as_flattened(), &mut answers), Ok(()));
     assert_eq!(answers, [8, 0, 12]);
     assert_eq!(list(&[], &mut answers), Err(Refusal::BadList));

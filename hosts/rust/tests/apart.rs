@@ -1,6 +1,7 @@
 //! The lists of happenings of the crate `apart` on the linked calls: the one that ends committed (Examples.antt), and
-//! for each hypothesis those that fail it alone and break the claim (Needed.antt); with two more, for a
-//! leader's inbox that is lost, and for tables that are made longer.
+//! for each hypothesis those that fail it alone and break the claim (Needed.antt; here too for a summary that says more
+//! than its inbox); with three more, for a leader's inbox that is lost, for a summary that is lost, and for tables that
+//! are made longer.
 
 use paxos_commit::*;
 use std::collections::HashMap;
@@ -17,6 +18,8 @@ use Role::*;
 struct Host {
     table: Vec<u8>,
     network: Vec<u8>,
+    /// A leader's part of the summary; the others have none.
+    summary: Vec<u8>,
 }
 
 /// What happens to host k of a role.
@@ -38,7 +41,11 @@ impl System {
     /// Zeros: the lengths of each role's table and N.
     fn fresh(plan: Plan, lengths: [(Role, u8, usize, usize); 3]) -> System {
         let hosts = lengths.into_iter().flat_map(|(role, count, table, network)| {
-            (0..count).map(move |k| ((role, k), Host { table: vec![0; table], network: vec![0; network] }))
+            let summary = if role == Leader { plan.leader_summary_len() } else { 0 };
+            (0..count).map(move |k| {
+                let host = Host { table: vec![0; table], network: vec![0; network], summary: vec![0; summary] };
+                ((role, k), host)
+            })
         });
         System { plan, hosts: hosts.collect(), wire: Vec::new() }
     }
@@ -58,10 +65,12 @@ impl System {
                 failed.extend((!sent(&read)).then_some("NotForged"));
             }
             Happening::Restart(role, k, host) => {
-                let old = &self.hosts[&(*role, *k)].table;
+                let Host { table: old, summary, .. } = &self.hosts[&(*role, *k)];
                 let longer = old.len() % SLOT == 0
                     && host.table.strip_prefix(&old[..]).is_some_and(|more| more.iter().all(|&byte| byte == 0));
-                failed.extend((host.table != *old && !longer).then_some("TableKept"));
+                // A bit that the summary has lost does no harm; one that it has gained may.
+                let gained = host.summary.iter().zip(summary).any(|(new, old)| new & !old != 0);
+                failed.extend((host.table != *old && !longer || gained).then_some("TableKept"));
                 failed.extend((!sent(&self.messages(&host.network))).then_some("NotForged"));
             }
         }
@@ -74,12 +83,12 @@ impl System {
         let host = self.hosts.get_mut(&(*role, *k)).unwrap();
         match happening {
             Happening::Call(role, _, event) => {
-                let step = match role {
-                    Rm => rm_step,
-                    Acceptor => acceptor_step,
-                    Leader => leader_step,
+                let Host { table, network, summary } = host;
+                let answer = match role {
+                    Rm => rm_step(self.plan, table, network, event),
+                    Acceptor => acceptor_step(self.plan, table, network, event),
+                    Leader => leader_step(self.plan, table, summary, network, event),
                 };
-                let answer = step(self.plan, &mut host.table, &mut host.network, event);
                 if let Ok(Answer::Slot(slot)) = answer {
                     self.wire.push(Message::in_slot(self.plan, &host.network, slot).unwrap());
                 }
@@ -109,7 +118,13 @@ fn to(role: Role, k: u8, bytes: &[u8]) -> Happening {
 }
 
 fn restart(role: Role, k: u8, table: &[u8], network: &[u8]) -> Happening {
-    Happening::Restart(role, k, Host { table: table.to_vec(), network: network.to_vec() })
+    Happening::Restart(role, k, Host { table: table.to_vec(), network: network.to_vec(), summary: Vec::new() })
+}
+
+/// A leader goes on, with its part of the summary.
+fn restart_leader(k: u8, inbox: &[u8], summary: &[u8], network: &[u8]) -> Happening {
+    let host = Host { table: inbox.to_vec(), network: network.to_vec(), summary: summary.to_vec() };
+    Happening::Restart(Leader, k, host)
 }
 
 #[test]
@@ -126,7 +141,7 @@ fn the_list_that_commits() {
         (to(Leader, 0, &[0x3B, 0, 0, 0, 1, 1, 2]), slot(0)),
         (act(Leader, 0, 4, 0, 0), quiet),
         (act(Leader, 0, 7, 0, 0), slot(1)),
-        (restart(Leader, 0, &[0x3B, 0, 0, 0, 1, 1, 2, 0, 0, 0, 0, 0, 0, 0, 0, 0], &[0; 8]), quiet),
+        (restart_leader(0, &[0x3B, 0, 0, 0, 1, 1, 2, 0, 0, 0, 0, 0, 0, 0, 0, 0], &[1], &[0; 8]), quiet),
         (to(Rm, 0, &[0x30, 1, 1, 2]), slot(1)),
         (act(Rm, 0, 2, 0, 1), quiet),
     ] {
@@ -253,7 +268,8 @@ fn inbox_kept_needed() {
     genuine(s, act(Leader, 0, 7, 0, 0));
     take(s, Rm, 1, 2, &[0x30, 1, 1, 2]);
 
-    let lost = restart(Leader, 0, &[0; 160], &s.hosts[&(Leader, 0)].network);
+    let Host { summary, network, .. } = &s.hosts[&(Leader, 0)];
+    let lost = restart_leader(0, &[0; 160], summary, network);
     assert_eq!(s.failed(&lost), ["TableKept"]);
     assert_eq!(s.happen(&lost), Ok(Answer::Quiet));
 
@@ -267,6 +283,42 @@ fn inbox_kept_needed() {
     genuine(s, act(Leader, 0, 8, 0, 0));
     take(s, Rm, 0, 2, &[0x30, 2, 1, 2]);
     assert_eq!(s.row(), [3, 2]);
+}
+
+/// The leader goes on with a summary that has both weights as prepared; its inbox has nothing. Weight 0 chooses to abort.
+#[test]
+fn summary_kept_needed() {
+    let before = vec![act(Rm, 0, 1, 0, 0), act(Rm, 1, 0, 0, 0)];
+    let rest = vec![act(Leader, 0, 7, 0, 0), to(Rm, 1, &[0x30, 1, 1, 2]), act(Rm, 1, 2, 0, 1)];
+    breaks("TableKept", before, restart_leader(0, &[0; 40], &[1, 1], &[0; 64]), rest);
+}
+
+/// A leader goes on with a summary of zeros: it cannot decide until a 2b of each instance comes again.
+#[test]
+fn a_lost_summary() {
+    let plan = Plan { rms: 2, acceptors: 1, leaders: 1, order: 0x0102 };
+    let mut system = System::fresh(plan, [(Rm, 2, 2, 24), (Acceptor, 1, 6, 48), (Leader, 1, 40, 64)]);
+    let decided = [vec![act(Rm, 0, 0, 0, 0), act(Rm, 1, 0, 0, 0)], deciding()].concat();
+    for happening in decided {
+        assert!(system.failed(&happening).is_empty() && system.happen(&happening).is_ok(), "{happening:?}");
+    }
+    let Host { table, summary, .. } = system.hosts[&(Leader, 0)].clone();
+    assert_eq!(summary, [1, 1]);
+    let (slot, quiet, not_enabled) = (|slot| Ok(Answer::Slot(slot)), Ok(Answer::Quiet), Err(Refusal::NotEnabled));
+    for (happening, answer) in [
+        (restart_leader(0, &table, &[0, 0], &[0; 64]), quiet),
+        (act(Leader, 0, 7, 0, 0), not_enabled),
+        (to(Leader, 0, &[0x3B, 0, 0, 0, 1, 1, 2]), slot(0)),
+        (act(Leader, 0, 4, 0, 0), quiet),
+        (act(Leader, 0, 7, 0, 0), not_enabled),
+        (to(Leader, 0, &[0x3B, 1, 0, 0, 1, 1, 2]), slot(1)),
+        (act(Leader, 0, 4, 0, 1), quiet),
+        (act(Leader, 0, 7, 0, 0), slot(2)),
+    ] {
+        assert_eq!(system.failed(&happening), [""; 0], "{happening:?}");
+        assert_eq!(system.happen(&happening), answer, "{happening:?}");
+    }
+    assert_eq!((&system.hosts[&(Leader, 0)].table, &system.hosts[&(Leader, 0)].summary), (&table, &summary));
 }
 
 /// A leader whose N, and then its inbox, has one slot: each is full, is made longer by zeros, and the next message has
@@ -286,10 +338,10 @@ fn longer_tables() {
         (to(Leader, 0, &votes[..7]), slot(0)),
         (act(Leader, 0, 4, 0, 0), quiet),
         (to(Leader, 0, &votes[8..15]), Err(Refusal::NetworkFull)),
-        (restart(Leader, 0, &votes[..8], &[&votes[..8], &[0; 16]].concat()), quiet),
+        (restart_leader(0, &votes[..8], &[0], &[&votes[..8], &[0; 16]].concat()), quiet),
         (to(Leader, 0, &votes[8..15]), slot(1)),
         (act(Leader, 0, 4, 0, 1), Err(Refusal::InboxFull)),
-        (restart(Leader, 0, &[&votes[..8], &[0; 8]].concat(), &[&votes[..], &[0; 8]].concat()), quiet),
+        (restart_leader(0, &[&votes[..8], &[0; 8]].concat(), &[0], &[&votes[..], &[0; 8]].concat()), quiet),
         (act(Leader, 0, 4, 0, 1), quiet),
         (act(Leader, 0, 7, 0, 0), slot(2)),
     ] {

@@ -1,5 +1,5 @@
 //! Document 01's examples, its rehearsal and its limits through this crate, in an order with a number (document 02, Paper
-//! 1), what is refused of another order, lists (Paper 2), and the owners of ballots (Paper 4).
+//! 1), what is refused of another order, lists (Paper 2), the owners of ballots (Paper 4), and the summary (Paper 5).
 
 use paxos_commit::*;
 
@@ -50,8 +50,8 @@ fn another_order() {
         assert_eq!(network, [0; 8]);
         let (mut inbox, mut full) = (written.slot(), written.slot());
         let event = Event::Commit { leader: 0 }.bytes();
-        assert_eq!(leader_step(ONE, &mut inbox, &mut network, &event), Err(Refusal::BadInbox));
-        assert_eq!(leader_step(ONE, &mut inbox, &mut full, &event), Err(Refusal::BadNetwork));
+        assert_eq!(leader_step(ONE, &mut inbox, &mut [0], &mut network, &event), Err(Refusal::BadInbox));
+        assert_eq!(leader_step(ONE, &mut inbox, &mut [0], &mut full, &event), Err(Refusal::BadNetwork));
         assert_eq!(deliver(ONE, &mut full, &commit.write(ONE).unwrap()), Err(Refusal::BadNetwork));
         assert_eq!(Message::in_slot(ONE, &full, 0), Err(Refusal::OtherOrder));
     }
@@ -78,7 +78,7 @@ fn example_11() {
     let mut inbox = table(&[&[0x3F, 0, 0, 3, 0, 1, 1, 2], &[0x3F, 0, 1, 3, 2, 2, 1, 2]]);
     let mut network = table(&[]);
     let event = Event::Phase2a { leader: 0, ins: 0, bal: 3 }.bytes();
-    assert_eq!(leader_step(plan(3), &mut inbox, &mut network, &event), Ok(Answer::Slot(0)));
+    assert_eq!(leader_step(plan(3), &mut inbox, &mut [0], &mut network, &event), Ok(Answer::Slot(0)));
     assert_eq!(network[..8], [0x39, 0, 3, 2, 1, 2, 0, 0]);
     assert_eq!(inbox[16..24], [0x39, 0, 3, 2, 1, 2, 0, 0]);
 }
@@ -87,16 +87,112 @@ fn example_11() {
 fn example_12() {
     let reports: [&[u8]; 3] = [&[0x27, 0, 0, 1, 1, 2], &[0x27, 0, 1, 1, 1, 2], &[0x27, 0, 2, 1, 1, 2]];
     let event = Event::Phase2a { leader: 0, ins: 0, bal: 1 }.bytes();
-    let propose = |count: usize| leader_step(plan(4), &mut table(&reports[..count]), &mut table(&[]), &event);
+    let propose = |count: usize| leader_step(plan(4), &mut table(&reports[..count]), &mut [0], &mut table(&[]), &event);
     assert_eq!(propose(2), Err(Refusal::NotEnabled));
     assert_eq!(propose(3), Ok(Answer::Slot(0)));
 }
 
+/// The leader first receives the two 2b, which are at different ballots.
 #[test]
 fn example_13() {
-    let mut inbox = table(&[&[0x3B, 0, 0, 0, 1, 1, 2], &[0x3B, 0, 1, 3, 1, 1, 2]]);
-    let event = Event::Commit { leader: 0 }.bytes();
-    assert_eq!(leader_step(plan(3), &mut inbox, &mut table(&[]), &event), Err(Refusal::NotEnabled));
+    let votes: [&[u8]; 2] = [&[0x3B, 0, 0, 0, 1, 1, 2], &[0x3B, 0, 1, 3, 1, 1, 2]];
+    let (mut inbox, mut summary, mut network) = (table(&[]), [0], table(&votes));
+    let mut step = |event: Event| leader_step(plan(3), &mut inbox, &mut summary, &mut network, &event.bytes());
+    assert_eq!(step(Event::Receipt { leader: 0, slot: 0 }), Ok(Answer::Quiet));
+    assert_eq!(step(Event::Receipt { leader: 0, slot: 1 }), Ok(Answer::Quiet));
+    assert_eq!(step(Event::Commit { leader: 0 }), Err(Refusal::NotEnabled));
+    assert_eq!((inbox, summary), (table(&votes), [0]));
+}
+
+/// What a receipt does to the summary, of leader 1 in the record and in its own call: a majority at one ballot sets the
+/// bit of that instance and value alone, a repeat sets it too, and a refused receipt sets none. Kinds 7 and 8 read the
+/// summary alone.
+#[test]
+fn summary() {
+    let plan = Plan { rms: 2, acceptors: 3, leaders: 2, order: 0x0102 };
+    let vote = |ins, acc, bal, val| [0x3B, ins, acc, bal, val, 1, 2, 0];
+    let network = [vote(1, 0, 0, 1), vote(1, 1, 4, 1), vote(1, 2, 4, 1), vote(1, 0, 9, 2), vote(1, 1, 9, 2)].concat();
+    let receipt = |slot| Event::Receipt { leader: 1, slot };
+    let (commit, abort) = (Event::Commit { leader: 1 }, Event::Abort { leader: 1 });
+    let mut record =
+        Record::of(plan, vec![0; 2], vec![0; 18], [&network[..], &[0; 8]].concat(), vec![0; 64], vec![0; 4]);
+    let (mut inbox, mut own, mut n) = (vec![0; 32], vec![0; 2], [&network[..], &[0; 8]].concat());
+    let (quiet, not_enabled) = (Ok(Answer::Quiet), Err(Refusal::NotEnabled));
+    for (event, answer, standing) in [
+        (receipt(0), quiet, [0, 0]),
+        (receipt(1), quiet, [0, 0]),
+        (receipt(2), quiet, [0, 1]),
+        (receipt(2), quiet, [0, 1]),
+        (receipt(3), quiet, [0, 1]),
+        (receipt(4), Err(Refusal::InboxFull), [0, 1]),
+        (commit, not_enabled, [0, 1]),
+        (abort, not_enabled, [0, 1]),
+    ] {
+        assert_eq!(record.step(event), answer, "{event:?}");
+        assert_eq!(leader_step(plan, &mut inbox, &mut own, &mut n, &event.bytes()), answer, "{event:?}");
+        assert_eq!((&record.summary()[plan.summary_range(1).unwrap()], &own[..]), (&standing[..], &standing[..]));
+        assert_eq!((&record.summary()[..2], &record.inboxes()[32..]), (&[0, 0][..], &inbox[..]));
+    }
+
+    // The same inbox with a summary of zeros: a 2b that stands in it, at another ballot than the majority's, sets the bit.
+    own.fill(0);
+    assert_eq!(leader_step(plan, &mut inbox, &mut own, &mut n, &receipt(0).bytes()), quiet);
+    assert_eq!(own, [0, 1]);
+    // A summary of other content is read as it is.
+    for (standing, event, answer) in [
+        ([1, 1], commit, Ok(Answer::Slot(5))),
+        ([3, 3], commit, Ok(Answer::Slot(5))),
+        ([1, 2], commit, not_enabled),
+        ([0, 2], abort, Ok(Answer::Slot(5))),
+        ([3, 0], abort, Ok(Answer::Slot(5))),
+        ([1, 1], abort, not_enabled),
+    ] {
+        let mut lent = standing;
+        assert_eq!(leader_step(plan, &mut inbox, &mut lent, &mut n.clone(), &event.bytes()), answer, "{standing:?}");
+        assert_eq!(lent, standing);
+    }
+}
+
+/// 20 after 6 and before 7, in a list after 19, at opening after 2 and for the length alone; nothing changes.
+#[test]
+fn refused_summaries() {
+    let plan = Plan { rms: 2, acceptors: 3, leaders: 2, order: 0x0102 };
+    let fresh = Record::fresh(plan, 4, 4).unwrap().into_tables();
+    let record = |summary: &[u8]| {
+        let [states, votes, network, inboxes, _] = fresh.clone();
+        Record::of(plan, states, votes, network, inboxes, summary.to_vec())
+    };
+    let events = [&b""[..], b"none", &[9, 0, 0, 0], &[0, 0, 0, 0], &[3, 0, 0, 0], &[7, 1, 0, 0]];
+    for summary in [&[0, 0, 0][..], &[0; 5], &[], &[4, 0, 0, 0], &[0, 0, 0, 4], &[0, 255, 0, 0]] {
+        let before = record(summary);
+        let mut after = before.clone();
+        for event in events {
+            assert_eq!(after.step_bytes(event), Err(Refusal::BadSummary));
+        }
+        let mut answers = [0xAA; 2];
+        assert_eq!(after.run_bytes(&[0; 8], &mut answers), Err(Refusal::BadSummary));
+        assert_eq!(after.run_bytes(&[], &mut []), Err(Refusal::BadSummary));
+        assert_eq!(after.run_bytes(&[0; 7], &mut answers), Err(Refusal::BadList));
+        assert_eq!((answers, &after), ([0xAA; 2], &before));
+        let opened = if summary.len() == 4 { Ok(()) } else { Err(Refusal::BadSummary) };
+        assert_eq!(after.open(), opened);
+        assert_eq!(after == before, opened.is_err());
+        assert_eq!(after == record(&[0; 4]), opened.is_ok());
+
+        let mut damaged = before.into_tables();
+        damaged[3][0] = 1;
+        let [states, votes, network, inboxes, summary] = damaged;
+        let mut damaged = Record::of(plan, states, votes, network, inboxes, summary);
+        assert_eq!(damaged.step_bytes(b""), Err(Refusal::BadInbox));
+    }
+    for summary in [&[0][..], &[0; 4], &[], &[4, 0], &[0, 128]] {
+        for event in events {
+            let (mut inbox, mut own, mut network) = ([0; 8], summary.to_vec(), [0; 8]);
+            assert_eq!(leader_step(plan, &mut inbox, &mut own, &mut network, event), Err(Refusal::BadSummary));
+            assert_eq!((inbox, &own[..], network), ([0; 8], summary, [0; 8]));
+            assert_eq!(leader_step(plan, &mut [1; 8], &mut own, &mut network, event), Err(Refusal::BadInbox));
+        }
+    }
 }
 
 #[test]
@@ -110,6 +206,7 @@ fn rehearsal() {
     assert_eq!(Message::in_slot(ONE, record.network(), 2), Ok(Message::Decision { val: Decision::Commit }));
     assert_eq!(Message::in_slot(ONE, record.network(), 3), Err(Refusal::NoMessage));
     assert_eq!(Message::in_slot(ONE, record.network(), 1024), Err(Refusal::NoMessage));
+    assert_eq!(record.summary(), [1]);
     assert_eq!(record.slot(1024), None);
 }
 
@@ -165,18 +262,18 @@ fn refused_lists() {
         for (events, count) in [(&event[..], 1), (&event[..], 2), (&event[..3], 1), (&[], 0)] {
             let mut tables = fresh.clone().into_tables();
             tables[table][at] = byte;
-            let [states, votes, network, inboxes] = tables;
-            let mut damaged = Record::of(plan, states, votes, network, inboxes);
+            let [states, votes, network, inboxes, summary] = tables;
+            let mut damaged = Record::of(plan, states, votes, network, inboxes, summary);
             let (before, mut answers) = (damaged.clone(), vec![0xAA; count]);
             assert_eq!(damaged.run_bytes(events, &mut answers), Err(refusal));
             assert!(answers.iter().all(|&answer| answer == 0xAA) && damaged == before);
         }
     }
-    let [mut states, mut votes, mut network, mut inboxes] = fresh.into_tables();
+    let [mut states, mut votes, mut network, mut inboxes, mut summary] = fresh.into_tables();
     inboxes.pop();
     let mut answers = [0xAA];
     assert_eq!(
-        run(plan, &mut states, &mut votes, &mut network, &mut inboxes, &event, &mut answers),
+        run(plan, &mut states, &mut votes, &mut network, &mut inboxes, &mut summary, &event, &mut answers),
         Err(Refusal::BadLengths)
     );
     assert_eq!((answers, states), ([0xAA], vec![0, 0]));
@@ -207,7 +304,7 @@ fn a_host_for_each_role() {
     let network = || vec![0; slots_len(64)];
     let mut weights = [(vec![0; plan.states_len()], network()), (vec![0; plan.states_len()], network())];
     let mut acceptors = [0, 1, 2].map(|_| (vec![0; plan.votes_len()], network()));
-    let (mut inbox, mut leader) = (vec![0; slots_len(64)], network());
+    let (mut inbox, mut summary, mut leader) = (vec![0; slots_len(64)], vec![0; plan.leader_summary_len()], network());
     let sent = |network: &[u8], answer: Answer| match answer {
         Answer::Slot(slot) => Message::in_slot(plan, network, slot).unwrap().write(plan).unwrap(),
         Answer::Quiet => panic!("nothing was sent"),
@@ -219,13 +316,12 @@ fn a_host_for_each_role() {
             let slot = deliver(plan, network, &proposal).unwrap();
             let answer = acceptor_step(plan, votes, network, &Event::Vote { acceptor, slot }.bytes()).unwrap();
             let slot = deliver(plan, &mut leader, &sent(network, answer)).unwrap();
-            assert_eq!(
-                leader_step(plan, &mut inbox, &mut leader, &Event::Receipt { leader: 1, slot }.bytes()),
-                Ok(Answer::Quiet)
-            );
+            let event = Event::Receipt { leader: 1, slot }.bytes();
+            assert_eq!(leader_step(plan, &mut inbox, &mut summary, &mut leader, &event), Ok(Answer::Quiet));
         }
     }
-    let answer = leader_step(plan, &mut inbox, &mut leader, &Event::Commit { leader: 1 }.bytes()).unwrap();
+    let event = Event::Commit { leader: 1 }.bytes();
+    let answer = leader_step(plan, &mut inbox, &mut summary, &mut leader, &event).unwrap();
     let decision = sent(&leader, answer);
     for (rm, (states, network)) in (0..).zip(&mut weights) {
         let slot = deliver(plan, network, &decision).unwrap();
@@ -238,8 +334,8 @@ fn a_host_for_each_role() {
 fn borrowed_and_owned_records() {
     let plan = Plan { rms: 3, acceptors: 2, leaders: 2, order: 0x0102 };
     let mut owned = Record::fresh(plan, 5, 4).unwrap();
-    let (mut w, mut q, mut n, mut i) = (vec![9; 3], vec![9; 18], vec![9; 40], vec![9; 64]);
-    let mut lent = Record::of(plan, &mut w[..], &mut q[..], &mut n[..], &mut i[..]);
+    let (mut w, mut q, mut n, mut i, mut s) = (vec![9; 3], vec![9; 18], vec![9; 40], vec![9; 64], vec![9; 6]);
+    let mut lent = Record::of(plan, &mut w[..], &mut q[..], &mut n[..], &mut i[..], &mut s[..]);
     assert_eq!(lent.step(Event::Prepare { rm: 0 }), Err(Refusal::BadStates));
     lent.open().unwrap();
     for event in [Event::Prepare { rm: 1 }, Event::Vote { acceptor: 1, slot: 0 }, Event::Receipt { leader: 1, slot: 1 }]
@@ -247,15 +343,17 @@ fn borrowed_and_owned_records() {
         assert_eq!(owned.step(event), lent.step(event));
         assert!(owned.states() == lent.states() && owned.votes() == lent.votes());
         assert!(owned.network() == lent.network() && owned.inboxes() == lent.inboxes());
+        assert!(owned.summary() == lent.summary());
     }
     assert_eq!(owned.plan().inbox_range(64, 1), Some(32..64));
+    assert_eq!((plan.summary_range(0), plan.summary_range(1), plan.summary_range(2)), (Some(0..3), Some(3..6), None));
     assert_eq!(owned.inboxes()[32..40], [0x3B, 1, 1, 0, 1, 1, 2, 0]);
     assert_eq!(owned.clone().into_tables()[0], [0, 1, 0]);
     // Taken up again from bytes that were kept; a damaged byte is seen at the next call, and nothing is changed.
     let mut kept = owned.clone().into_tables();
     kept[3][63] = 1;
-    let [states, votes, network, inboxes] = kept;
-    let mut damaged = Record::of(plan, states, votes, network, inboxes);
+    let [states, votes, network, inboxes, summary] = kept;
+    let mut damaged = Record::of(plan, states, votes, network, inboxes, summary);
     let before = damaged.clone();
     assert_eq!(damaged.step(Event::Prepare { rm: 0 }), Err(Refusal::BadInbox));
     assert_eq!(damaged, before);
@@ -276,7 +374,7 @@ fn ballots() {
             if plan.first_ballot(leader).is_some() && leaders <= 4 {
                 let event = Event::Phase1a { leader, ins: 0, bal }.bytes();
                 let answer = if owned { Ok(Answer::Slot(0)) } else { Err(Refusal::NotOwned) };
-                assert_eq!(leader_step(plan, &mut [], &mut [0; 8], &event), answer);
+                assert_eq!(leader_step(plan, &mut [], &mut [0], &mut [0; 8], &event), answer);
             }
         }
     }
@@ -293,9 +391,9 @@ fn limits() {
         assert_eq!(Message::Decision { val: Decision::Abort }.write(plan), Err(Refusal::BadPlan));
         assert_eq!(rm_step(plan, &mut [], &mut [], &[]), Err(Refusal::BadPlan));
         assert_eq!(acceptor_step(plan, &mut [], &mut [], &[]), Err(Refusal::BadPlan));
-        assert_eq!(leader_step(plan, &mut [], &mut [], &[]), Err(Refusal::BadPlan));
-        assert_eq!(step(plan, &mut [], &mut [], &mut [], &mut [], &[]), Err(Refusal::BadPlan));
-        assert_eq!(run(plan, &mut [], &mut [], &mut [], &mut [], &[0], &mut []), Err(Refusal::BadPlan));
+        assert_eq!(leader_step(plan, &mut [], &mut [], &mut [], &[]), Err(Refusal::BadPlan));
+        assert_eq!(step(plan, &mut [], &mut [], &mut [], &mut [], &mut [], &[]), Err(Refusal::BadPlan));
+        assert_eq!(run(plan, &mut [], &mut [], &mut [], &mut [], &mut [], &[0], &mut []), Err(Refusal::BadPlan));
         assert_eq!(deliver(plan, &mut [], &[]), Err(Refusal::BadPlan));
         assert_eq!(ending(plan, &[]), Err(Refusal::BadPlan));
     }
@@ -308,6 +406,7 @@ fn limits() {
         (largest.states_len(), largest.votes_len(), slots_len(1024), largest.inboxes_len(1024)),
         (16, 336, 8192, 32768)
     );
+    assert_eq!((largest.summary_len(), largest.leader_summary_len()), (64, 16));
     assert_eq!(rm_step(ONE, &mut [0], &mut [], &[0, 0, 0, 0]), Err(Refusal::NetworkFull));
 }
 
@@ -386,6 +485,6 @@ fn refusals_by_number_and_in_words() {
         let error: &dyn std::error::Error = &refusal;
         assert!(error.to_string().ends_with(&format!("({number})")));
     }
-    assert_eq!((Refusal::from_number(0), Refusal::from_number(20)), (None, None));
+    assert_eq!((Refusal::from_number(0), Refusal::from_number(21)), (None, None));
     assert_eq!(Refusal::NotEnabled.to_string(), "not enabled (12)");
 }

@@ -105,7 +105,7 @@ fn the_c_host_prints_the_events_and_refusals_of_this_crate() {
         Some(refusal) => format!("refusal {number}: {refusal}"),
         None => format!("refusal {number}: no refusal"),
     };
-    assert_eq!(printed, (0..=20).map(words).collect::<Vec<_>>());
+    assert_eq!(printed, (0..=21).map(words).collect::<Vec<_>>());
 }
 
 #[test]

@@ -18,7 +18,6 @@ use Rattle.message.specs.Outcome.{refused}
 use Rattle.message.specs.Rows.{here, Lowest}
 use Rattle.message.specs.Rows.Named.{row-applies, applies-row}
 use Rattle.slots.specs.Table.{messages}
-use Rattle.change.specs.Change.{Step}
 use Rattle.event.specs.Event.{whoOf, slotNumber}
 use Rattle.tcommit.specs.TCommit.{except}
 use Rattle.paxos_commit.specs.PaxosCommit.{Message, AState, except₂}
@@ -30,7 +29,7 @@ use Rattle.matching.specs.Acceptor.{Phase1bAction, Phase2bAction, reportOf, isT
 use Rattle.matching.specs.Acceptor.Votes.{report-is}
 use Rattle.matching.specs.Theorems.{acceptor-answers, acceptor-member, acceptor-phase1b, acceptor-phase2b}
 use Rattle.safety.specs.Grounds.Kept.{unowned-other}
-use Rattle.apart.specs.Hosts.{acceptor, Host, System, after, sentBy, row, published}
+use Rattle.apart.specs.Hosts.{acceptor, Host, System, Left, called, after, sentBy, row, published}
 use Rattle.apart.specs.Hosts.Tied.{Grounded, Claim, claim-sends, wire-adds}
 
 pub entry-set : (p : Plan) (acceptors : ℕ → Host) (ins k : ℕ) (v : AState) (h : Host)
@@ -61,8 +60,8 @@ module _ (p : Plan) (s : System) (g : Grounded p s) (e : List ℕ) where
   abbrev network : List ℕ
   network = s .hosts acceptor a .network
 
-  abbrev r : Step
-  r = acceptorStep p votes network e
+  abbrev r : Left
+  r = called p acceptor (s .hosts acceptor a) e
 
   rows : Lowest (acceptorRows p votes network e (stateOf p votes network (row s))) (r .answer)
   rows = acceptor-answers p votes network e (row s)
@@ -87,7 +86,7 @@ module _ (p : Plan) (s : System) (g : Grounded p s) (e : List ℕ) where
           subst (λ (y : Message). (x : Message) → setOf (m ∷ s .wire) x ↔ (setOf (s .wire) x ⊎ (x ≡ y))) (report-is p votes ins a (ok .0) member bal) (wire-adds (s .wire) m),
           refl,
         ) in
-        claim-sends p s (g .tied) acceptor a r m sent (λ l. refl) (unowned-other p _ refl) (inr (inr (inr (a, member, inl (ins, bal, acts)))))
+        claim-sends p s (g .tied) acceptor a r m sent (λ l. refl) (λ l i v h. h) (unowned-other p _ refl) (inr (inr (inr (a, member, inl (ins, bal, acts)))))
 
     votes-for : (ins bal val : ℕ) → InSlot p network e (Phase2a ins bal val) → Claim p s acceptor a r (sentBy p r)
     votes-for ins bal val slot =
@@ -95,7 +94,7 @@ module _ (p : Plan) (s : System) (g : Grounded p s) (e : List ℕ) where
         let m : Wire.Message = Phase2b ins a bal val in
         let acts : Phase2bAction p a ins bal (valOf val) (published p s) (published p (after s acceptor a r (m ∷ [])))
         = (sent-before _ slot, low, entry-set p (s .hosts acceptor) ins a _ _ is, wire-adds (s .wire) m, refl) in
-        claim-sends p s (g .tied) acceptor a r m sent (λ l. refl) (unowned-other p _ refl) (inr (inr (inr (a, member, inr (ins, bal, valOf val, acts)))))
+        claim-sends p s (g .tied) acceptor a r m sent (λ l. refl) (λ l i v h. h) (unowned-other p _ refl) (inr (inr (inr (a, member, inr (ins, bal, valOf val, acts)))))
 
     -- row 8: the slot is used
     used : length (messages p network) ≤ slotNumber e → ⊥

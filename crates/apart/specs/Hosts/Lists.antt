@@ -9,6 +9,7 @@
 --     no-11                       no answer of a list is 11
 -- Assumes nothing.
 use Prim.Native.Nat.{ℕ}
+use mathlib.Core.Bool.{true}
 use mathlib.Core.List.{List, [], _∷_, _++_, List·Memᴰ, List·Memᴰ·head, List·Memᴰ·tail, List·Memᴰ·not-nil, Memᴰ·append-right}
 use mathlib.Core.Logic.{_↔_}
 use mathlib.Core.Path.{_≡_, refl, sym, _∙_, ap}
@@ -20,17 +21,19 @@ use Rattle.slots.specs.Table.{messages}
 use Rattle.change.specs.declared.Sent.{Sent}
 use Rattle.paxos_commit.specs.PaxosCommit.{Message, PCInit}
 use Rattle.paxos_commit.specs.PaxosCommit.Safety.Histories.{inv-init}
+use Rattle.leader.specs.Leader.{stands}
 use Rattle.record.specs.Record.{zeroed}
 use Rattle.matching.specs.Reading.{isRM, isAcceptor, isMajoritySet, setOf}
 use Rattle.safety.specs.Grounds.Zeros.{getD-zeros, messages-zeros, aStateOf-zeros}
 use Rattle.apart.specs.Hosts.{Role, rm, acceptor, leader, System, Happening, call, delivery, restart, Made, made, called, sentBy, Genuine}
 use Rattle.apart.specs.Hosts.{published, Fresh, zeroHosts, systemAfter, answers, AllGenuine, Safe, AfterEach}
 use Rattle.apart.specs.Hosts.Tied.{Grounded}
+use Rattle.apart.specs.Hosts.Restart.{zeros-stand}
 use Rattle.apart.specs.Hosts.Steps.{grounded-one, path-one, agreed-one, not-11-one}
 
-pub zeros-fresh : (tables networks : Role → ℕ → ℕ) → Fresh (zeroHosts tables networks)
+pub zeros-fresh : (tables summaries networks : Role → ℕ → ℕ) → Fresh (zeroHosts tables summaries networks)
 unfolding zeroed
-zeros-fresh tables networks = (λ role k. (zeros (tables role k), zeros (networks role k)), refl)
+zeros-fresh tables summaries networks = (λ role k. (zeros (tables role k), zeros (summaries role k), zeros (networks role k)), refl)
   where
     zeros : (n : ℕ) → replicate n 0 ≡ zeroed (replicate n 0)
     zeros n = ap (λ (k : ℕ). replicate k 0) (sym (length-replicate n 0))
@@ -48,15 +51,21 @@ module _ (p : Plan) (s : System) where
   unfolding zeroed
   empty t zeros x (m, h, e) = List·Memᴰ·not-nil (rw (ap (messages p) zeros ∙ messages-zeros p (length t)) at h)
 
+  -- in a summary of zeros
+  nothing-stands : (t : List ℕ) → t ≡ zeroed t → (i v : ℕ) → stands t i v ≡ true → ⊥
+  unfolding zeroed
+  nothing-stands t zeros i v h = zeros-stand (length t) i v (rw zeros at h)
+
   pub grounded-fresh : Fresh s → Grounded p s
   grounded-fresh fresh =
       record {
         inv = inv-init (initial fresh);
         tied =
             record {
-              networks = λ role k m h. absurd (empty _ (fresh .0 role k .1) _ (m, h, refl));
+              networks = λ role k m h. absurd (empty _ (fresh .0 role k .2) _ (m, h, refl));
               inboxes = λ l x h. absurd (empty _ (fresh .0 leader l .0) x h);
               own-2a = λ l b o i v h. absurd (initial fresh .2 _ h);
+              standing = λ l i v value h. absurd (nothing-stands _ (fresh .0 leader l .1) i v h);
             };
       }
 
@@ -75,7 +84,7 @@ module _ (p : Plan) where
   wire-one : (s : System) (h : Happening) (m : Wire.Message) → List·Memᴰ m (s .wire) → List·Memᴰ m (made p s h .system .wire)
   wire-one s (call role k e) m there = Memᴰ·append-right (sentBy p (called p role (s .hosts role k) e)) there
   wire-one s (delivery role k bytes) m there = there
-  wire-one s (restart role k table network) m there = there
+  wire-one s (restart role k table summary network) m there = there
 
   pub wire-kept : (s : System) (hs more : List Happening) (m : Wire.Message) → List·Memᴰ m (systemAfter p s hs .wire)
       → List·Memᴰ m (systemAfter p s (hs ++ more) .wire)

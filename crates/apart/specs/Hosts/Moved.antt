@@ -15,10 +15,9 @@ use Rattle.message.specs.Outcome.{Outcome, accepted, refused}
 use Rattle.slots.specs.Table.{messages}
 use Rattle.slots.specs.Send.{messageAt}
 use Rattle.change.specs.declared.Sent.the-variants.{Slot, Quiet}
-use Rattle.change.specs.Change.{Step}
 use Rattle.tcommit.specs.TCommit.{except, TCNext}
 use Rattle.tcommit.specs.TCommit.Laws.{except-cases, except-here}
-use Rattle.apart.specs.Hosts.{Role, rm, acceptor, leader, Host, System, putHost, only, sentBy, after}
+use Rattle.apart.specs.Hosts.{Role, rm, acceptor, leader, Host, System, Left, putHost, only, sentBy, after}
 
 pub except-other : {A : Type 0} (f : ℕ → A) (k : ℕ) (v : A) (j : ℕ) → (j ≡ k → ⊥) → except f k v j ≡ f j
 except-other f k v j other = except-cases (λ i u. (i ≡ k → ⊥) → u ≡ f i) f k v (λ n. absurd (n refl)) (λ i d n. refl) j other
@@ -40,8 +39,8 @@ module _ (f : Role → ℕ → Host) where
   old-host leader k h acceptor j other = refl
   old-host leader k h leader j other = except-other (f leader) k h j (other refl)
 
-module _ (p : Plan) (s : System) (role : Role) (k : ℕ) (r : Step) where
-  pub wire-slot : (slot : ℕ) (m : Wire.Message) → r .answer ≡ accepted (Slot slot) → messageAt (messages p (r .network)) slot ≡ accepted m
+module _ (p : Plan) (s : System) (role : Role) (k : ℕ) (r : Left) where
+  pub wire-slot : (slot : ℕ) (m : Wire.Message) → r .answer ≡ accepted (Slot slot) → messageAt (messages p (r .host .network)) slot ≡ accepted m
       → after s role k r (sentBy p r) .wire ≡ m ∷ s .wire
   wire-slot slot m is stands = rw (is, stands) refl
 

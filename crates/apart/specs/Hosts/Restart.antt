@@ -1,12 +1,14 @@
--- A role's table that was kept, or made longer by zeros after whole slots, reads as before.
+-- A role's table that was kept, or made longer by zeros after whole slots, reads as before; in a summary of zeros nothing stands.
 --     getD-longer         byte by byte
 --     messages-longer     its messages
 --     kept-reading        all of it
+--     zeros-stand         zeros of any length
 -- Assumes nothing.
-use Prim.Native.Nat.{ℕ, zero, suc, _+_, _*_, _/_, _%_, _≤_}
+use Prim.Native.Nat.{ℕ, zero, suc, _+_, _-_, _*_, _/_, _%_, _≤_}
+use mathlib.Core.Bool.{true, false≢true}
 use mathlib.Core.List.{List, [], _∷_, _++_, map}
 use mathlib.Core.Logic.{inl, inr}
-use mathlib.Core.Path.{_≡_, refl, _∙_, ap, fun-ext}
+use mathlib.Core.Path.{_≡_, refl, sym, _∙_, ap, fun-ext}
 use native.Mathlib.Omega.{arith}
 use lib.ListN.{length, getD, take, drop, replicate, length-append, length-drop, length-replicate}
 use lib.Seq.{take-append-le, drop-append-le}
@@ -14,6 +16,8 @@ use Rattle.message.specs.declared.Plan.{Plan}
 use Rattle.message.specs.declared.Message as Wire
 use Rattle.slots.specs.Table.{Slot, Unused, Used, Bad, slotSize, slotsUpTo, slots, readSlot, readTable, usedMessages, messages}
 use Rattle.slots.specs.Table.Laws.{isZero-replicate}
+use Rattle.quorum.specs.Mask.Laws.{hasBit-zero}
+use Rattle.leader.specs.Leader.{stands}
 use Rattle.matching.specs.Reading.{rmStateOf, aStateOf}
 use Rattle.safety.specs.Grounds.Zeros.{getD-zeros, unused-zeros}
 use Rattle.apart.specs.Hosts.{Host, TableKept}
@@ -50,6 +54,11 @@ module _ (p : Plan) (n : ℕ) where
   messages-longer t whole =
       let size : length (t ++ replicate n 0) ≡ length t + n = length-append t (replicate n 0) ∙ ap (λ (k : ℕ). length t + k) (length-replicate n 0) in
       up-to (length t / slotSize) (length (t ++ replicate n 0) / slotSize) t (omega arith) (omega arith)
+
+-- for every instance and value
+pub zeros-stand : (n i v : ℕ) → stands (replicate n 0) i v ≡ true → ⊥
+unfolding stands
+zeros-stand n i v h = false≢true (sym (hasBit-zero (v - 1)) ∙ rw (getD-zeros n i) at h)
 
 pub kept-reading : (p : Plan) (h : Host) (table : List ℕ) → TableKept h table → readOf p table ≡ readOf p (h .table)
 kept-reading p h table (inl same) = ap (readOf p) same

@@ -21,7 +21,6 @@ use Rattle.message.specs.Rows.{Either, here, below, Lowest}
 use Rattle.message.specs.Rows.Named.{row-applies, applies-row}
 use Rattle.slots.specs.Table.{messages}
 use Rattle.slots.specs.Send.{messageAt}
-use Rattle.change.specs.Change.{Step}
 use Rattle.change.specs.declared.Sent.the-variants.{Quiet}
 use Rattle.event.specs.Event.{kindOf, whoOf, slotNumber, isEvent}
 use Rattle.event.specs.Event.Laws.{rm-who}
@@ -38,7 +37,7 @@ use Rattle.matching.specs.Rm.{RMPrepare, RMChooseToAbort, RMRcvCommitMsg, RMRcv
 use Rattle.matching.specs.Rm.Laws as RmLaws
 use Rattle.matching.specs.Theorems.{majorities-meet, rm-answers, rm-member, rm-prepare, rm-choose-to-abort, rm-receive-commit, rm-receive-abort}
 use Rattle.safety.specs.Grounds.Kept.{unowned-zero}
-use Rattle.apart.specs.Hosts.{rm, Host, System, after, sentBy, row, published}
+use Rattle.apart.specs.Hosts.{rm, Host, System, Left, called, after, sentBy, row, published}
 use Rattle.apart.specs.Hosts.Tied.{Tied, Grounded, Heard, heard-of, Claim, claim-sends, tied-same, nets-quiet, wire-adds}
 
 pub row-set : (weights : ℕ → Host) (i v : ℕ) (h : Host) → rmStateOf (h .table) ≡ except (rmStateOf (weights i .table)) i v
@@ -70,8 +69,8 @@ module _ (p : Plan) (s : System) (e : List ℕ) where
   abbrev network : List ℕ
   network = s .hosts rm i .network
 
-  abbrev r : Step
-  r = rmStep p states network e
+  abbrev r : Left
+  r = called p rm (s .hosts rm i) e
 
   abbrev aState : ℕ → ℕ → AState
   aState = published p s .aState
@@ -81,12 +80,12 @@ module _ (p : Plan) (s : System) (e : List ℕ) where
 
   module _ (g : Tied p s) (taken : Accepted (r .answer)) where
     -- nothing was sent
-    quiet : r .answer ≡ accepted Quiet → r .network ≡ network
+    quiet : r .answer ≡ accepted Quiet → r .host .network ≡ network
         → PCNext (isRM p) (isAcceptor p) (isMajoritySet p) (published p s) (published p (after s rm i r [])) → Claim p s rm i r (sentBy p r)
     quiet is same next =
         rw is (
           inl next,
-          tied-same p s g _ (λ x h. h) (nets-quiet p s g rm i r (λ m h. g .networks rm i m (rw same at h))) (λ l. refl) (λ l b j v o h. h),
+          tied-same p s g _ (λ x h. h) (nets-quiet p s g rm i r (λ m h. g .networks rm i m (rw same at h))) (λ l. refl) (λ l j v h. h) (λ l b j v o h. h),
         )
 
     member : isRM p i
@@ -100,14 +99,14 @@ module _ (p : Plan) (s : System) (e : List ℕ) where
         let ((works, is, joined, same), sent, table) = rm-prepare p states network e aState taken kind in
         let acts : RMPrepare p i (published p s) (published p (after s rm i r (Phase2a i 0 1 ∷ [])))
         = (works, row-set (s .hosts rm) i prepared _ is, wire-adds (s .wire) (Phase2a i 0 1), refl) in
-        claim-sends p s g rm i r (Phase2a i 0 1) sent (λ l. refl) (unowned-zero p i _) (inl (i, member, inl acts))
+        claim-sends p s g rm i r (Phase2a i 0 1) sent (λ l. refl) (λ l j v h. h) (unowned-zero p i _) (inl (i, member, inl acts))
 
     chooses : kindOf e ≡ 1 → Claim p s rm i r (sentBy p r)
     chooses kind =
         let ((works, is, joined, same), sent, table) = rm-choose-to-abort p states network e aState taken kind in
         let acts : RMChooseToAbort p i (published p s) (published p (after s rm i r (Phase2a i 0 2 ∷ [])))
         = (works, row-set (s .hosts rm) i aborted _ is, wire-adds (s .wire) (Phase2a i 0 2), refl) in
-        claim-sends p s g rm i r (Phase2a i 0 2) sent (λ l. refl) (unowned-zero p i _) (inl (i, member, inr (inl acts)))
+        claim-sends p s g rm i r (Phase2a i 0 2) sent (λ l. refl) (λ l j v h. h) (unowned-zero p i _) (inl (i, member, inr (inl acts)))
 
     learns-commit : kindOf e ≡ 2 → (m : Wire.Message) → messageAt (messages p network) (slotNumber e) ≡ accepted m → messageOf m ≡ Commit
         → Claim p s rm i r (sentBy p r)

@@ -7,7 +7,7 @@ use Prim.Native.Nat.{ℕ}
 use mathlib.Core.Bool.{true}
 use mathlib.Core.List.{List, [], List·Memᴰ, List·Memᴰ·head}
 use mathlib.Core.Logic.{_⊎_, inl, inr, ⊎-elim}
-use mathlib.Core.Path.{_≡_, refl, sym, ap, subst}
+use mathlib.Core.Path.{_≡_, refl, sym, ap, ap₂, subst}
 use Rattle.message.specs.declared.Plan.{Plan}
 use Rattle.message.specs.Outcome.{Outcome, accepted, refused}
 use Rattle.message.specs.Outcome.Laws.{accepted-not-refused}
@@ -27,15 +27,14 @@ use Rattle.matching.specs.Call.{Accepted}
 use Rattle.matching.specs.Call.Laws.{stored}
 use Rattle.matching.specs.Rm.Laws as RmLaws
 use Rattle.matching.specs.Acceptor.Laws as AcceptorLaws
-use Rattle.matching.specs.Leader.Laws as LeaderLaws
-use Rattle.matching.specs.Leader.Took as LeaderTook
+use Rattle.matching.specs.Leader.Own.{own-keeps, own-took}
 use Rattle.matching.specs.Theorems.{majorities-meet}
 use Rattle.safety.specs.Grounds.Stored.{member-split}
 use Rattle.deliver.specs.Deliver.{Delivery, deliverStep}
 use Rattle.deliver.specs.Deliver.Laws.{delivered as delivered-is, deliver-keeps, deliver-not-11}
-use Rattle.apart.specs.Hosts.{Role, rm, acceptor, leader, System, Happening, call, delivery, restart, made, called, delivered, restarted, only}
-use Rattle.apart.specs.Hosts.{sentBy, OwnNumber, NotForged, TableKept, Genuine, row, published}
-use Rattle.apart.specs.Hosts.Tied.{Tied, Grounded, Allowed, Claim, claim-refused, claim-network}
+use Rattle.apart.specs.Hosts.{Role, rm, acceptor, leader, System, Happening, call, delivery, restart, Left, leftBy, made, called, delivered}
+use Rattle.apart.specs.Hosts.{restarted, only, sentBy, OwnNumber, NotForged, TableKept, SummaryKept, Genuine, row, published}
+use Rattle.apart.specs.Hosts.Tied.{Tied, Grounded, Allowed, Claim, summary-same, claim-refused, claim-network}
 use Rattle.apart.specs.Hosts.Restart.{kept-reading}
 use Rattle.apart.specs.Hosts.Rm.{event-11, rm-claim, rm-not-11}
 use Rattle.apart.specs.Hosts.Acceptor.{acceptor-claim, acceptor-not-11}
@@ -43,19 +42,19 @@ use Rattle.apart.specs.Hosts.Leader.{leader-claim, leader-not-11}
 
 module _ (p : Plan) (s : System) (g : Grounded p s) where
   -- the role's own call on host k
-  abbrev step : Role → ℕ → List ℕ → Step
+  abbrev step : Role → ℕ → List ℕ → Left
   step role k e = called p role (s .hosts role k) e
 
   keeps : (role : Role) (k : ℕ) (e : List ℕ) (j : ℕ) → step role k e .answer ≡ refused j
-      → step role k e ≡ refusal (s .hosts role k .table) (s .hosts role k .network) j
-  keeps rm k e = RmLaws.keeps p _ _ e
-  keeps acceptor k e = AcceptorLaws.keeps p _ _ e
-  keeps leader k e = LeaderLaws.keeps p _ _ _ e
+      → step role k e ≡ leftBy (refusal (s .hosts role k .table) (s .hosts role k .network) j) (s .hosts role k .summary)
+  keeps rm k e j is = ap (λ (r : Step). leftBy r (s .hosts rm k .summary)) (RmLaws.keeps p _ _ e j is)
+  keeps acceptor k e j is = ap (λ (r : Step). leftBy r (s .hosts acceptor k .summary)) (AcceptorLaws.keeps p _ _ e j is)
+  keeps leader k e j is = let (left, same) = own-keeps p _ _ _ e j is in ap₂ leftBy left same
 
   event : (role : Role) (k : ℕ) (e : List ℕ) → Accepted (step role k e .answer) → isEvent p e ≡ true
   event rm k e taken = RmLaws.took p _ _ e taken .event
   event acceptor k e taken = AcceptorLaws.took p _ _ e taken .event
-  event leader k e taken = LeaderTook.took p _ _ _ e taken .event
+  event leader k e taken = own-took p _ _ _ e taken .event
 
   -- the host that the event names
   own : (role : Role) (e : List ℕ) → Accepted (step role (whoOf e) e .answer) → Claim p s role (whoOf e) (step role (whoOf e) e) (sentBy p (step role (whoOf e) e))
@@ -83,7 +82,7 @@ module _ (p : Plan) (s : System) (g : Grounded p s) where
         go : (o : Outcome Sent) → deliverStep p network bytes .answer ≡ o → Claim p s role k (delivered p (s .hosts role k) bytes) []
         go (refused j) is =
             claim-network p s (g .tied) role k (delivered p (s .hosts role k) bytes)
-            (λ m h. g .tied .networks role k m (rw (deliver-keeps p network bytes j is) at h)) refl
+            (λ m h. g .tied .networks role k m (rw (deliver-keeps p network bytes j is) at h)) refl (summary-same role (s .hosts role k) _ refl)
         go (accepted a) is =
             let d = delivered-is p network bytes a is in
             let range = readMessage-form p bytes (d .message) (d .read) .inRange in
@@ -95,15 +94,17 @@ module _ (p : Plan) (s : System) (g : Grounded p s) where
             (member-split p network (storeBytes p (d .store) network) (d .message) (stored-is .stores) m
             (subst (λ (n : List ℕ). List·Memᴰ m (messages p n)) after-is h)))
             refl
+            (summary-same role (s .hosts role k) _ refl)
 
-    restart-claim : (table network′ : List ℕ) → TableKept (s .hosts role k) table → NotForged s (messages p network′)
-        → Claim p s role k (restarted table network′) []
-    restart-claim table network′ same genuine = claim-network p s (g .tied) role k (restarted table network′) genuine (kept-reading p (s .hosts role k) table same)
+    restart-claim : (table summary network′ : List ℕ) → TableKept (s .hosts role k) table → SummaryKept role (s .hosts role k) summary
+        → NotForged s (messages p network′) → Claim p s role k (restarted table summary network′) []
+    restart-claim table summary network′ same stood genuine =
+        claim-network p s (g .tied) role k (restarted table summary network′) genuine (kept-reading p (s .hosts role k) table same) stood
 
   pub one-claim : (h : Happening) → Genuine p s h → Allowed p s (made p s h .system) × Tied p (made p s h .system)
   one-claim (call role k e) named = call-claim role k e named
   one-claim (delivery role k bytes) genuine = deliver-claim role k bytes genuine
-  one-claim (restart role k table network′) (same, genuine) = restart-claim role k table network′ same genuine
+  one-claim (restart role k table summary network′) (same, stood, genuine) = restart-claim role k table summary network′ same stood genuine
 
   module _ (h : Happening) (genuine : Genuine p s h) where
     pub grounded-one : Grounded p (made p s h .system)
@@ -121,15 +122,15 @@ module _ (p : Plan) (s : System) (g : Grounded p s) where
   named-11 : (role : Role) (k : ℕ) (e : List ℕ) → step role k e .answer ≡ refused 11 → isEvent p e ≡ true
   named-11 rm k e is = event-11 p _ _ e (published p s .aState) is
   named-11 acceptor k e is = absurd (acceptor-not-11 p _ _ e (row s) is)
-  named-11 leader k e is = absurd (leader-not-11 p _ _ e (row s) (published p s .aState) is)
+  named-11 leader k e is = absurd (leader-not-11 p _ _ _ e (row s) (published p s .aState) is)
 
   own-not-11 : (role : Role) (e : List ℕ) → step role (whoOf e) e .answer ≡ refused 11 → ⊥
   own-not-11 rm e = rm-not-11 p s e g
   own-not-11 acceptor e = acceptor-not-11 p _ _ e (row s)
-  own-not-11 leader e = leader-not-11 p _ _ e (row s) (published p s .aState)
+  own-not-11 leader e = leader-not-11 p _ _ _ e (row s) (published p s .aState)
 
   pub not-11-one : (h : Happening) → Genuine p s h → made p s h .answer ≡ refused 11 → ⊥
   not-11-one (call role k e) named is =
       subst (λ (i : ℕ). step role i e .answer ≡ refused 11 → ⊥) (named (named-11 role k e is)) (own-not-11 role e) is
   not-11-one (delivery role k bytes) genuine is = deliver-not-11 p _ bytes is
-  not-11-one (restart role k table network′) genuine is = accepted-not-refused (sym is)
+  not-11-one (restart role k table summary network′) genuine is = accepted-not-refused (sym is)

@@ -10,21 +10,22 @@ use Rattle.batch.proofs.run_events.Statement.{statement}
 use Rattle.batch.proofs.run_events.Tie as tie
 
 abbrev Inv-loop : tie.InvT-loop
-Inv-loop plan states₀ votes₀ network₀ inboxes₀ events answers₀ i₀ states votes network inboxes answers i =
-    Running plan (tablesOf states₀ votes₀ network₀ inboxes₀) events (tablesOf states votes network inboxes) answers i
+Inv-loop plan states₀ votes₀ network₀ inboxes₀ summary₀ events answers₀ i₀ states votes network inboxes summary answers i =
+    Running plan (tablesOf states₀ votes₀ network₀ inboxes₀ summary₀) events (tablesOf states votes network inboxes summary) answers i
     × (length states ≡ length states₀)
     × (length votes ≡ length votes₀)
     × (length network ≡ length network₀)
     × (length inboxes ≡ length inboxes₀)
+    × (length summary ≡ length summary₀)
     × (length answers ≡ length answers₀)
 
 abbrev μ-loop : tie.MeasureT-loop
-μ-loop plan states₀ votes₀ network₀ inboxes₀ events answers₀ i₀ states votes network inboxes answers i = length answers₀ - i
+μ-loop plan states₀ votes₀ network₀ inboxes₀ summary₀ events answers₀ i₀ states votes network inboxes summary answers i = length answers₀ - i
 
 loop-holds : tie.Need-loop-holds Inv-loop μ-loop
 loop-holds c =
-    let start = c .before .before .before .before .before .before in
-    (running-start _ _ _ _ (start .pre .0) (start .pre .1), refl, refl, refl, refl, refl)
+    let start = c .before .before .before .before .before .before .before in
+    (running-start _ _ _ _ (start .pre .0) (start .pre .1), refl, refl, refl, refl, refl, refl)
 
 -- the event lies within the list
 mul-from : tie.Need-mul-from Inv-loop μ-loop
@@ -52,24 +53,26 @@ part-event-end c =
 
 -- one event further
 abbrev performed : tie.After-answer-number Inv-loop μ-loop → tie.After-perform Inv-loop μ-loop
-performed c = c .before .before .before .before .before .before .before .before .before
+performed c = c .before .before .before .before .before .before .before .before .before .before .before
 
 slice-write-answers : tie.Need-slice-write-answers Inv-loop μ-loop
 slice-write-answers c =
-    let at-event = performed c .before .before .before .before .before .before in
+    let at-event = performed c .before .before .before .before .before .before .before in
     at-event .loop-test .taken
 
 add-i : tie.Need-add-i Inv-loop μ-loop
-add-i c = search needs
+add-i c =
+    let at-event = performed c .before .before .before .before .before .before .before in
+    search (needs, at-event .loop-test .taken, at-event .before .loop .inv .6)
 
 loop-less : tie.Need-loop-less Inv-loop μ-loop
 loop-less c = search needs
 
 loop-again : tie.Need-loop-again Inv-loop μ-loop
 loop-again c =
-    let at-event = performed c .before .before .before .before .before .before in
+    let at-event = performed c .before .before .before .before .before .before .before in
     let next = running-next _ _ _ _ _ _ (at-event .before .loop .inv .0) (at-event .loop-test .taken) _ (performed c .perform .ensures) _ (c .answer-number .ensures) in
-    (next, search needs, search needs, search needs, search needs, search needs)
+    (next, search needs, search needs, search needs, search needs, search needs, search needs)
 
 -- the list's end
 returns : tie.Need-returns Inv-loop μ-loop
@@ -91,6 +94,9 @@ same-length-4 c = c .before .loop .inv .4
 
 same-length-5 : tie.Need-same-length-5 Inv-loop μ-loop
 same-length-5 c = c .before .loop .inv .5
+
+same-length-6 : tie.Need-same-length-6 Inv-loop μ-loop
+same-length-6 c = c .before .loop .inv .6
 
 pub run-events-spec : {M : Type 1} → statement M
 run-events-spec =
@@ -115,4 +121,5 @@ run-events-spec =
     same-length-3
     same-length-4
     same-length-5
+    same-length-6
     returns)

@@ -4,14 +4,17 @@
 --     calls-append, left-append      the single calls of two lists of events, and the tables that they leave
 --     events-append                  the events of two lists of whole events, one after the other
 --     calls-keep                     what each call keeps, all of them keep
---     finished-accepted, finished-sound, finished-halves     a sound record stays so; two lists one after the other
+--     finished-sound, finished-halves     a sound record stays so; two lists one after the other
 --     answer-judged                  what the call answers
---     run-sound                      an accepted call found the record sound
---     run-whole, run-cut, run-bad    on a sound record a list, and what is none; on a record that is not sound
+--     list-judged, whole-judged      of a list rows 1 to 6 and 20 are left
+--     run-sound                      an accepted call found the record sound, its summary too
+--     run-whole, run-lent            a list on a sound record, and on one that is not
+--     run-cut, run-bad               what is no list, where rows 1 to 6 pass; where they do not
+--     lent-summary                   where rows 1 to 6 pass, row 20 is left
 --     run-accepted, run-refused      the two cases of the call
 -- Assumes nothing.
 use Prim.Native.Nat.{ℕ, zero, suc, _+_, _*_, _/_, _%_, _≤_}
-use mathlib.Core.Bool.{Bool, true, false}
+use mathlib.Core.Bool.{Bool, true, false, not}
 use mathlib.Core.List.{List, [], _∷_, _++_, map-append}
 use mathlib.Core.Logic.{_⊎_, inl, inr, ⊎-elim}
 use mathlib.Core.Path.{_≡_, refl, sym, _∙_, ap}
@@ -23,9 +26,10 @@ use borrow.Author.Tests.{eqb-true, eqb-false, eq-eqb}
 use Rattle.message.specs.Outcome.Laws.{accepted-not-refused, both}
 use Rattle.message.specs.declared.Plan.{Plan}
 use Rattle.message.specs.Outcome.{Outcome, accepted, refused, andThen, refuseIf, numberOf}
-use Rattle.record.specs.Record.{Tables, RecordStep, recordJudged, recordStep}
+use Rattle.leader.specs.Leader.{isSummary}
+use Rattle.record.specs.Record.{Tables, RecordStep, recordJudged, lentJudged, recordStep}
 use Rattle.conformance.specs.Theorems.{record-sound}
-use Rattle.batch.specs.Run.{eventsOf, singleCalls, tablesLeft, Run, isList, runJudged, finishedRun, settledRun, recordRun}
+use Rattle.batch.specs.Run.{eventsOf, singleCalls, tablesLeft, isList, runJudged, finishedRun, settledRun, recordRun}
 
 pub is-list : (events answers : List ℕ) → isList events answers ≡ true → length events ≡ 4 * length answers
 is-list events answers is =
@@ -86,13 +90,9 @@ pub calls-keep : (p : Plan) (P : Tables → Type 0) → ((t : Tables) (e : List 
 calls-keep p P step t h [] = h
 calls-keep p P step t h (e ∷ es) = calls-keep p P step (recordStep p t e .tables) (step t e h) es
 
-pub finished-accepted : (p : Plan) (t : Tables) (events : List ℕ) → finishedRun p t events .answer ≡ accepted tt
+pub finished-sound : (p : Plan) (t : Tables) → lentJudged p t ≡ accepted tt → (events : List ℕ) → lentJudged p (finishedRun p t events .tables) ≡ accepted tt
 unfolding finishedRun
-finished-accepted p t events = refl
-
-pub finished-sound : (p : Plan) (t : Tables) → recordJudged p t ≡ accepted tt → (events : List ℕ) → recordJudged p (finishedRun p t events .tables) ≡ accepted tt
-unfolding finishedRun
-finished-sound p t ok events = calls-keep p (λ u. recordJudged p u ≡ accepted tt) (record-sound p) t ok (eventsOf events)
+finished-sound p t ok events = calls-keep p (λ u. lentJudged p u ≡ accepted tt) (record-sound p) t ok (eventsOf events)
 
 -- the calls of two lists
 pub finished-halves : (p : Plan) (t : Tables) (n : ℕ) (first second : List ℕ) → length first ≡ 4 * n
@@ -140,19 +140,39 @@ module _ (p : Plan) (t : Tables) (events answers : List ℕ) where
   unfolding recordRun runJudged andThen
   run-bad k h = rw h
 
-  pub run-sound : recordRun p t events answers .answer ≡ accepted tt → recordJudged p t ≡ accepted tt
-  run-sound is = go (recordJudged p t) refl
-    where
-      go : (o : Outcome (Unit {0})) → recordJudged p t ≡ o → o ≡ accepted tt
-      go (accepted u) h = refl
-      go (refused k) h = absurd (accepted-not-refused (sym (ap (λ (r : Run). r .answer) (run-bad k h)) ∙ is))
+  pub list-judged : isList events answers ≡ true → runJudged p t events answers ≡ lentJudged p t
+  unfolding runJudged lentJudged refuseIf
+  list-judged is = rw is
 
-  pub run-whole : recordJudged p t ≡ accepted tt → length events ≡ 4 * length answers → recordRun p t events answers ≡ finishedRun p t events
-  unfolding recordRun runJudged andThen refuseIf
-  run-whole ok size =
+  pub whole-judged : length events ≡ 4 * length answers → runJudged p t events answers ≡ lentJudged p t
+  whole-judged size =
       let cut : length events % 4 ≡ 0 = omega arith in
       let each : length answers ≡ length events / 4 = omega arith in
-      rw (ok, eq-eqb _ _ cut, eq-eqb _ _ each)
+      list-judged (rw (eq-eqb _ _ cut, eq-eqb _ _ each))
+
+  pub run-sound : recordRun p t events answers .answer ≡ accepted tt → lentJudged p t ≡ accepted tt
+  unfolding runJudged andThen refuseIf
+  run-sound is = go (isList events answers) refl
+    where
+      none : (o : Outcome (Unit {0})) → andThen {B = Unit {0}} o (λ _. refused 19) ≡ accepted tt → ⊥
+      none (accepted u) h = accepted-not-refused h
+      none (refused k) h = accepted-not-refused h
+
+      cut : isList events answers ≡ false → runJudged p t events answers ≡ andThen (recordJudged p t) (λ _. refused 19)
+      cut list = rw list
+
+      go : (b : Bool) → isList events answers ≡ b → lentJudged p t ≡ accepted tt
+      go true list = sym (list-judged list) ∙ sym answer-judged ∙ is
+      go false list = absurd (none (recordJudged p t) (sym (cut list) ∙ sym answer-judged ∙ is))
+
+  pub run-whole : lentJudged p t ≡ accepted tt → length events ≡ 4 * length answers → recordRun p t events answers ≡ finishedRun p t events
+  unfolding recordRun
+  run-whole ok size = rw (whole-judged size, ok)
+
+  pub run-lent : (k : ℕ) → lentJudged p t ≡ refused k → length events ≡ 4 * length answers
+      → recordRun p t events answers ≡ record { answer = refused k; tables = t; answers = answers }
+  unfolding recordRun
+  run-lent k bad size = rw (whole-judged size, bad)
 
   pub run-cut : recordJudged p t ≡ accepted tt → (length events ≡ 4 * length answers → ⊥) → recordRun p t events answers .answer ≡ refused 19
   unfolding runJudged andThen refuseIf
@@ -161,3 +181,8 @@ module _ (p : Plan) (t : Tables) (events answers : List ℕ) where
       go : (b : Bool) → isList events answers ≡ b → runJudged p t events answers ≡ refused 19
       go true is = absurd (cut (is-list events answers is))
       go false is = rw (ok, is)
+
+pub lent-summary : (p : Plan) (t : Tables) → recordJudged p t ≡ accepted tt
+    → lentJudged p t ≡ refuseIf (not (isSummary (p .rms * p .leaders) (t .summary))) 20 (accepted tt)
+unfolding lentJudged andThen
+lent-summary p t ok = rw ok

@@ -22,8 +22,8 @@ use Rattle.matching.specs.Reading.{isRM, isAcceptor, isMajoritySet, valOf, mess
 use Rattle.matching.specs.Call.{Enabled, SlotHolds}
 use Rattle.matching.specs.Rm.{RMPrepare, RMChooseToAbort, RMRcvCommitMsg, RMRcvAbortMsg}
 use Rattle.matching.specs.Acceptor.{Phase1bAction, Phase2bAction, InSlot}
-use Rattle.matching.specs.Leader.{Phase1aAction, Phase2aAction, CommitAction, AbortAction}
-use Rattle.conformance.specs.Record.{recordState, recordRows, Disabled, Acted}
+use Rattle.matching.specs.Leader.{Phase1aAction, Phase2aAction, CommitBy, AbortBy}
+use Rattle.conformance.specs.Record.{recordState, OwnStands, recordRows, Disabled, Acted}
 use Rattle.conformance.specs.Record.{prepares, chooses-to-abort, receives-commit, receives-abort, promises, casts-vote, receives, opens-ballot}
 use Rattle.conformance.specs.Record.{proposes, commits, aborts}
 use Rattle.conformance.specs.Action.{received, ActsOnSlot, Action, Copies}
@@ -41,8 +41,8 @@ module _ (p : Plan) (t : Tables) (e : List ℕ) where
     At (suc (suc (suc (suc zero)))) = Copies p t e t′
     At (suc (suc (suc (suc (suc zero))))) = Phase1aAction p (lowOf e) (highOf e) (recordState p t) (recordState p t′)
     At (suc (suc (suc (suc (suc (suc zero)))))) = Phase2aAction p (received p t e) (lowOf e) (highOf e) (recordState p t) (recordState p t′)
-    At (suc (suc (suc (suc (suc (suc (suc zero))))))) = CommitAction p (received p t e) (recordState p t) (recordState p t′)
-    At (suc (suc (suc (suc (suc (suc (suc (suc k)))))))) = AbortAction p (received p t e) (recordState p t) (recordState p t′)
+    At (suc (suc (suc (suc (suc (suc (suc zero))))))) = CommitBy p (OwnStands p t e) (recordState p t) (recordState p t′)
+    At (suc (suc (suc (suc (suc (suc (suc (suc k)))))))) = AbortBy p (OwnStands p t e) (recordState p t) (recordState p t′)
 
     at-acted : Acted p t e answer t′ → At (kindOf e)
     at-acted (prepares kind rm acts sent same) = rw kind acts

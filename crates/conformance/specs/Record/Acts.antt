@@ -25,10 +25,11 @@ use Rattle.event.specs.Event.Laws.{event-parts, rm-who, acceptor-who, leader-wh
 use Rattle.tcommit.specs.RmState.{committed, aborted}
 use Rattle.paxos_commit.specs.PaxosCommit.{AState, Commit, Abort}
 use Rattle.acceptor.specs.Acceptor.{acceptorReceive}
-use Rattle.leader.specs.Leader.{owns, receipt, phase1a, phase2aMessage, sendBoth, phase2a, leaderKind}
-use Rattle.record.specs.Record.{Tables, withStates, withVotes, withNetwork, withInboxes, withInbox, RecordStep, onStates, onVotes, onInbox, recordStep}
-use Rattle.record.specs.Record.Parts.{with-inboxOf}
-use Rattle.message.specs.Plan.Laws.{plan-bounds}
+use Rattle.leader.specs.Leader.{owns, stands, receipt, phase1a, phase2aMessage, sendBoth, phase2a, leaderKind}
+use Rattle.inbox.specs.Inbox.{decided}
+use Rattle.summary.specs.Summary.{marked}
+use Rattle.record.specs.Record.{Tables, withStates, withVotes, withNetwork, withInboxes, withSummary, withInbox, RecordStep, onStates, onVotes, recordStep}
+use Rattle.record.specs.Record.Parts.{with-own}
 use Rattle.matching.specs.Reading.{messageOf, rmStateOf, aStateOf}
 use Rattle.matching.specs.Call.{Accepted}
 use Rattle.matching.specs.Call.Laws.{andThen-accepted}
@@ -37,11 +38,11 @@ use Rattle.matching.specs.Acceptor.{InSlot}
 use Rattle.matching.specs.Acceptor.Laws as Acceptor
 use Rattle.matching.specs.Leader.{isReceived}
 use Rattle.matching.specs.Leader.Took as LeaderTook
-use Rattle.matching.specs.Leader.Laws as Leader
+use Rattle.matching.specs.Leader.Own as LeaderOwn
 use Rattle.matching.specs.Theorems as Match
-use Rattle.conformance.specs.Record.{ownInbox, Acted, prepares, chooses-to-abort, receives-commit, receives-abort, promises, casts-vote}
+use Rattle.conformance.specs.Record.{ownInbox, ownSummary, onOwn, heard, Acted, prepares, chooses-to-abort, receives-commit, receives-abort, promises, casts-vote}
 use Rattle.conformance.specs.Record.{receives, opens-ballot, proposes, commits, aborts}
-use Rattle.conformance.specs.Record.Steps.{Role, rm, acceptor, leader, roleOf, rmPart, acceptorPart, leaderPart, ownDecided}
+use Rattle.conformance.specs.Record.Steps.{Role, rm, acceptor, leader, roleOf, rmPart, acceptorPart, leaderPart}
 use Rattle.conformance.specs.Record.Steps.{role-rm, role-acceptor, role-leader, Taken, taken}
 
 -- a leader takes only 1b and 2b messages
@@ -122,27 +123,48 @@ module _ (p : Plan) (t : Tables) (e : List ℕ) where
       go (Phase2b ins acc bal val) at change got = absurd (accepted-not-refused got)
       go (Decision val) at change got = absurd (accepted-not-refused got)
 
-  leader-acts : Taken p t e → 3 < kindOf e → Accepted (leaderPart p t e .answer) → Does (onInbox p (whoOf e) t (leaderPart p t e))
+  leader-acts : Taken p t e → 3 < kindOf e → Accepted (leaderPart p t e .step .answer) → Does (onOwn p (whoOf e) t (leaderPart p t e))
   unfolding leaderKind phase1a phase2a phase2aMessage
   leader-acts sure large ok = go (ℕ-discrete (kindOf e) 4) (ℕ-discrete (kindOf e) 5) (ℕ-discrete (kindOf e) 6) (ℕ-discrete (kindOf e) 7)
     where
       who : whoOf e < p .leaders
       who = leader-who p e (sure .event-is) large
 
-      took : LeaderTook.Took p (ownDecided p t e) (ownInbox p t e) (t .network) e
-      took = LeaderTook.took p (ownDecided p t e) (ownInbox p t e) (t .network) e ok
+      took : LeaderTook.Took p (stands (ownSummary p t e)) (ownInbox p t e) (t .network) e
+      took = LeaderOwn.own-took p (ownInbox p t e) (ownSummary p t e) (t .network) e ok
+
+      -- the summary keeps its bytes
+      same-summary : (kindOf e ≡ 4 → ⊥) → withInbox p (t .summary) (whoOf e) (leaderPart p t e .summary) ≡ t .summary
+      same-summary other =
+          ap (withInbox p (t .summary) (whoOf e)) (Match.leader-unmarked p (ownInbox p t e) (ownSummary p t e) (t .network) e ok other)
+          ∙ with-own p (t .summary) (whoOf e)
+
+      with-inbox : (kindOf e ≡ 4 → ⊥)
+          → onOwn p (whoOf e) t (leaderPart p t e) .tables
+          ≡ withNetwork (withInboxes t (withInbox p (t .inboxes) (whoOf e) (leaderPart p t e .step .table))) (leaderPart p t e .step .network)
+      with-inbox other =
+          ap
+          (withSummary
+          (withNetwork (withInboxes t (withInbox p (t .inboxes) (whoOf e) (leaderPart p t e .step .table))) (leaderPart p t e .step .network)))
+          (same-summary other)
 
       -- the inbox keeps its bytes, and so does I
-      same-inboxes : leaderPart p t e .table ≡ ownInbox p t e
-          → onInbox p (whoOf e) t (leaderPart p t e) .tables ≡ withNetwork t (leaderPart p t e .network)
-      same-inboxes is =
-          let back = with-inboxOf p (t .inboxes) (whoOf e) (plan-bounds p (sure .tables .plan) .leaders-least) who in
-          ap (λ (i : List ℕ). withNetwork (withInboxes t i) (leaderPart p t e .network)) (ap (withInbox p (t .inboxes) (whoOf e)) is ∙ back)
+      same-inboxes : (kindOf e ≡ 4 → ⊥) → leaderPart p t e .step .table ≡ ownInbox p t e
+          → onOwn p (whoOf e) t (leaderPart p t e) .tables ≡ withNetwork t (leaderPart p t e .step .network)
+      same-inboxes other is =
+          with-inbox other
+          ∙ ap (λ (i : List ℕ). withNetwork (withInboxes t i) (leaderPart p t e .step .network))
+          (ap (withInbox p (t .inboxes) (whoOf e)) is ∙ with-own p (t .inboxes) (whoOf e))
 
-      same-network : leaderPart p t e .network ≡ t .network
-          → onInbox p (whoOf e) t (leaderPart p t e) .tables
-          ≡ withInboxes t (withInbox p (t .inboxes) (whoOf e) (leaderPart p t e .table))
-      same-network is = ap (λ (n : List ℕ). withNetwork (withInboxes t (withInbox p (t .inboxes) (whoOf e) (leaderPart p t e .table))) n) is
+      marked-tables : (m : Wire.Message) → leaderPart p t e .step .network ≡ t .network
+          → leaderPart p t e .summary ≡ marked (decided p (messages p (leaderPart p t e .step .table))) (ownSummary p t e) m
+          → onOwn p (whoOf e) t (leaderPart p t e) .tables
+          ≡ heard p t e m (leaderPart p t e .step .table)
+      marked-tables m network summary =
+          ap₂ (λ (n s : List ℕ).
+          withSummary (withNetwork (withInboxes t (withInbox p (t .inboxes) (whoOf e) (leaderPart p t e .step .table))) n)
+          (withInbox p (t .summary) (whoOf e) s))
+          network summary
 
       owned-1a : kindOf e ≡ 5 → owns p (whoOf e) (lowOf e) ≡ true
       owned-1a kind =
@@ -157,28 +179,28 @@ module _ (p : Plan) (t : Tables) (e : List ℕ) where
           = andThen-accepted (phase2aMessage p (box .messages) (whoOf e) (highOf e) (lowOf e)) (sendBoth box (viewTable p (t .network))) _ got in
           not-false _ (refuseIf-accepted _ _ _ _ is .0)
 
-      receipt-acts : kindOf e ≡ 4 → Does (onInbox p (whoOf e) t (leaderPart p t e))
+      receipt-acts : kindOf e ≡ 4 → Does (onOwn p (whoOf e) t (leaderPart p t e))
       receipt-acts kind =
           let got : andThen (messageAt (messages p (t .network)) (slotNumber e)) (receipt (viewTable p (ownInbox p t e))) ≡ accepted (took .change)
           = rw kind at (took .verdict) in
           let (m, at, is) = andThen-accepted _ (receipt (viewTable p (ownInbox p t e))) _ got in
-          let (quiet, n, stores) = Match.leader-receipt p (ownInbox p t e) (t .network) e w q ok kind m at in
-          receives kind who m at (received _ m _ is) quiet (leaderPart p t e .table) stores (same-network n)
+          let (quiet, n, stores, marks) = Match.leader-receipt p (ownInbox p t e) (ownSummary p t e) (t .network) e w q ok kind m at in
+          receives kind who m at (received _ m _ is) quiet (leaderPart p t e .step .table) stores (marked-tables m n marks)
 
-      go : Dec (kindOf e ≡ 4) → Dec (kindOf e ≡ 5) → Dec (kindOf e ≡ 6) → Dec (kindOf e ≡ 7) → Does (onInbox p (whoOf e) t (leaderPart p t e))
+      go : Dec (kindOf e ≡ 4) → Dec (kindOf e ≡ 5) → Dec (kindOf e ≡ 6) → Dec (kindOf e ≡ 7) → Does (onOwn p (whoOf e) t (leaderPart p t e))
       go (yes k) d5 d6 d7 = receipt-acts k
       go (no n4) (yes k) d6 d7 =
-          let (a, s, i) = Match.leader-phase1a p (ownInbox p t e) (t .network) e w q ok k in
-          opens-ballot k who (event-instance p e (sure .event-is) (omega arith) (omega arith)) (owned-1a k) a s (same-inboxes i)
+          let (a, s, i) = Match.leader-phase1a p (ownInbox p t e) (ownSummary p t e) (t .network) e w q ok k in
+          opens-ballot k who (event-instance p e (sure .event-is) (omega arith) (omega arith)) (owned-1a k) a s (same-inboxes (λ four. omega arith) i)
       go (no n4) (no n5) (yes k) d7 =
-          let (a, is, s, stores) = Match.leader-phase2a p (ownInbox p t e) (t .network) e w q ok k in
-          proposes k who (event-instance p e (sure .event-is) (omega arith) (omega arith)) (owned-2a k) a is s (leaderPart p t e .table) stores refl
+          let (a, is, s, stores) = Match.leader-phase2a p (ownInbox p t e) (ownSummary p t e) (t .network) e w q ok k in
+          proposes k who (event-instance p e (sure .event-is) (omega arith) (omega arith)) (owned-2a k) a is s (leaderPart p t e .step .table) stores (with-inbox (λ four. omega arith))
       go (no n4) (no n5) (no n6) (yes k) =
-          let (a, s, i) = Match.leader-commit p (ownInbox p t e) (t .network) e w q ok k in commits k who a s (same-inboxes i)
+          let (a, s, i) = Match.leader-commit p (ownInbox p t e) (ownSummary p t e) (t .network) e w q ok k in commits k who a s (same-inboxes (λ four. omega arith) i)
       go (no n4) (no n5) (no n6) (no n7) =
           let last = event-parts p e (sure .event-is) .kind in
           let k : kindOf e ≡ 8 = omega arith in
-          let (a, s, i) = Match.leader-abort p (ownInbox p t e) (t .network) e w q ok k in aborts k who a s (same-inboxes i)
+          let (a, s, i) = Match.leader-abort p (ownInbox p t e) (ownSummary p t e) (t .network) e w q ok k in aborts k who a s (same-inboxes (λ four. omega arith) i)
 
   pub acts : (sent : Sent) → recordStep p t e .answer ≡ accepted sent → Does (recordStep p t e)
   acts sent is = let sure = taken p t e sent is in go sure (roleOf e)
@@ -191,5 +213,5 @@ module _ (p : Plan) (t : Tables) (e : List ℕ) where
           let same = sure .is-role ∙ role-acceptor p t e h in
           rw same (acceptor-acts (sure .event-is) h (sent, ap (λ (r : RecordStep). r .answer) (sym same) ∙ is))
       go sure (leader h) =
-          let same = sure .is-role ∙ role-leader p t e h in
+          let same = sure .is-role ∙ role-leader p t e (sure .tables) (sure .right) (sure .event-is) h in
           rw same (leader-acts sure h (sent, ap (λ (r : RecordStep). r .answer) (sym same) ∙ is))

@@ -1,7 +1,7 @@
--- What `Acted` says of an accepted event call leaves nothing open: it determines the answer and every byte of the four tables.
+-- What `Acted` says of an accepted event call leaves nothing open: it determines the answer and every byte of all tables.
 --     stores-one, sends-one     a message stored, and sent: one table, and one answer
 --     SentWith, QuietWith       the answer and the tables of a call that sends, and of one that does not
---     moved, promised, voted, heard     the tables with what a kind changes in W, Q or I
+--     moved, promised, voted, kept     the tables with what a kind changes in W, Q or I (after a receipt: `heard` of Record.antt)
 --     Given, given-one          what `Acted` gives for each kind; two calls of which it holds are one
 --     acted-one                 so for `Acted`
 -- Assumes nothing.
@@ -30,7 +30,7 @@ use Rattle.matching.specs.Reading.{messageOf}
 use Rattle.matching.specs.Call.{roomOf, SlotHolds, Sends, Stores}
 use Rattle.matching.specs.Acceptor.{reportOf, InSlot}
 use Rattle.matching.specs.Leader.{proposed}
-use Rattle.conformance.specs.Record.{ownInbox, Acted}
+use Rattle.conformance.specs.Record.{ownInbox, heard, Acted}
 use Rattle.conformance.specs.Record.{prepares, chooses-to-abort, receives-commit, receives-abort, promises, casts-vote, receives, opens-ballot}
 use Rattle.conformance.specs.Record.{proposes, commits, aborts}
 
@@ -85,8 +85,8 @@ module _ (p : Plan) (t : Tables) (e : List ℕ) where
   abbrev voted : ℕ → ℕ → ℕ → Tables
   voted ins bal val = withVotes t (set (set (set (t .votes) (at ins) bal) (at ins + 1) bal) (at ins + 2) val)
 
-  abbrev heard : List ℕ → Tables
-  heard inbox = withInboxes t (withInbox p (t .inboxes) (whoOf e) inbox)
+  abbrev kept : List ℕ → Tables
+  kept inbox = withInboxes t (withInbox p (t .inboxes) (whoOf e) inbox)
 
   abbrev Decides : Outcome Sent → Tables → Type 0
   Decides answer u =
@@ -104,12 +104,12 @@ module _ (p : Plan) (t : Tables) (e : List ℕ) where
   Receives answer u =
       (m : Wire.Message) × InSlot p (t .network) e m
       × ((inbox : List ℕ) × Stores p (ownInbox p t e) m inbox
-      × QuietWith (heard inbox) answer u)
+      × QuietWith (heard p t e m inbox) answer u)
 
   abbrev Proposes : Outcome Sent → Tables → Type 0
   Proposes answer u =
       (inbox : List ℕ) × Stores p (ownInbox p t e) (proposed p (ownInbox p t e) e) inbox
-      × SentWith (proposed p (ownInbox p t e) e) (heard inbox) answer u
+      × SentWith (proposed p (ownInbox p t e) e) (kept inbox) answer u
 
   abbrev Given : ℕ → Outcome Sent → Tables → Type 0
   Given zero = SentWith (Phase2a (whoOf e) 0 1) (moved prepared)
@@ -147,12 +147,12 @@ module _ (p : Plan) (t : Tables) (e : List ℕ) where
     receives-one (m, held, (box, h, q)) (n, holds, (case, k, r)) =
         let same = one-slot held holds in
         let one = stores-one p (ownInbox p t e) n (rw same at h) k in
-        quiet-one _ (rw one at q) r
+        quiet-one (heard p t e n case) (rw (same, one) at q) r
 
     proposes-one : Proposes a u → Proposes b v → (a ≡ b) × (u ≡ v)
     proposes-one (box, h, s) (case, k, r) =
         let one = stores-one p (ownInbox p t e) (proposed p (ownInbox p t e) e) h k in
-        sent-one _ (heard case) (rw one at s) r
+        sent-one _ (kept case) (rw one at s) r
 
     given-one : (k : ℕ) → Given k a u → Given k b v → (a ≡ b) × (u ≡ v)
     given-one zero = sent-one _ (moved prepared)

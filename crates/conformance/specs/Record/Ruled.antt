@@ -6,7 +6,7 @@ use Prim.Native.Nat.{ℕ, _*_, _%_, _≤_, _<_}
 use mathlib.Core.Bool.{Bool, true, false, not, _&&_, false≢true}
 use mathlib.Core.List.{List}
 use mathlib.Core.Logic.{_⊎_, inl, inr, ⊎-elim}
-use mathlib.Core.Path.{_≡_, refl, sym, _∙_}
+use mathlib.Core.Path.{_≡_, refl, sym, _∙_, subst}
 use native.Mathlib.Omega.{arith}
 use lib.Dec.{eqb}
 use lib.ListN.{length}
@@ -16,26 +16,27 @@ use Rattle.message.specs.Outcome.{Outcome, accepted, refused, andThen, refuseIf
 use Rattle.message.specs.Plan.{isPlan}
 use Rattle.message.specs.Rows.{Rows, end, guard, row, here, below}
 use Rattle.message.specs.Rows.Laws.{Ruled, ruled-skip}
-use Rattle.slots.specs.Table.{isTableLength, isTable, messages}
+use Rattle.slots.specs.Table.{isTableLength, isTable}
 use Rattle.change.specs.declared.Sent.{Sent}
 use Rattle.event.specs.Event.{kindOf, whoOf, isEvent}
 use Rattle.inbox.specs.Inbox.Quantifiers.{forAll-all, forAll-fails}
 use Rattle.rm.specs.Rm.{areStates}
 use Rattle.votes.specs.Votes.{areVotes}
-use Rattle.record.specs.Record.{Tables, inboxSize, areLengths, areInboxes, recordJudged, RecordStep, roleStep, settled, recordStep}
+use Rattle.leader.specs.Leader.{isSummary}
+use Rattle.record.specs.Record.{Tables, inboxSize, areLengths, areInboxes, recordJudged, lentJudged, RecordStep, settled, recordStep}
 use Rattle.record.specs.Record.Laws.{Sound, Lengths, lengths, sound-of, inbox-whole}
 use Rattle.event.specs.Event.Laws.{leader-who}
-use Rattle.matching.specs.Reading.{rmStateOf, aStateOf, setOf}
+use Rattle.matching.specs.Reading.{rmStateOf, aStateOf}
 use Rattle.matching.specs.Rm as Rm
 use Rattle.matching.specs.Rm.Ruled.{rm-ruled}
 use Rattle.matching.specs.Acceptor as Acceptor
 use Rattle.matching.specs.Acceptor.Ruled.{acceptor-ruled}
 use Rattle.matching.specs.Leader as Leader
-use Rattle.matching.specs.Leader.Conditions.{reflects-inbox}
-use Rattle.matching.specs.Leader.Ruled.{leader-ruled}
+use Rattle.matching.specs.Leader.Own.{summary-wrong, summary-right, own-ruled}
 use Rattle.matching.specs.Call.{SlotUnused, SlotHolds}
-use Rattle.conformance.specs.Record.{recordState, ownInbox, WrongLengths, NotTaken, Disabled, Full, recordRows}
-use Rattle.conformance.specs.Record.Steps.{Role, rm, acceptor, leader, roleOf, rmPart, acceptorPart, leaderPart, ownDecided, role-rm, role-acceptor, role-leader}
+use Rattle.conformance.specs.Record.{recordState, ownInbox, ownSummary, OwnStands, WrongLengths, NotTaken, Disabled, Full, recordRows, SoundSummary}
+use Rattle.conformance.specs.Record.Steps.{Role, rm, acceptor, leader, roleOf, rmPart, acceptorPart, leaderPart, markedStep}
+use Rattle.conformance.specs.Record.Steps.{role-rm, role-acceptor, own-right, role-leader}
 
 module _ {A : Type 0} (o : Outcome A) where
   -- a row that does not apply, at the head of the rows
@@ -113,7 +114,7 @@ module _ (p : Plan) (t : Tables) (e : List ℕ) where
       end))))))
 
   -- a leader's rows 12, 13 and 14 are of its kinds
-  leader-disabled : Leader.Disabled p (ownInbox p t e) e (recordState p t) → 3 < kindOf e
+  leader-disabled : Leader.DisabledBy p (OwnStands p t e) (ownInbox p t e) e (recordState p t) → 3 < kindOf e
   leader-disabled (here h) = omega (arith, h .0)
   leader-disabled (below (here h)) = omega (arith, h .0)
   leader-disabled (below (below h)) = omega (arith, h .0)
@@ -136,9 +137,9 @@ module _ (p : Plan) (t : Tables) (e : List ℕ) where
   by-acceptor = acceptorPart p t e .answer
 
   abbrev by-leader : Outcome Sent
-  by-leader = leaderPart p t e .answer
+  by-leader = leaderPart p t e .step .answer
 
-  module _ (s : Sound p t) (event : isEvent p e ≡ true) where
+  module _ (s : Sound p t) (right : SoundSummary p t) (event : isEvent p e ≡ true) where
     rm-rest : kindOf e ≤ 2 → Ruled (rmPart p t e .answer) Rest
     rm-rest small =
         swap by-rm 8 _ _ _ _ (λ h. (omega (arith, h .0), omega (arith, h .0), h .1)) (λ h. (omega (arith, h .0), h .2))
@@ -211,19 +212,19 @@ module _ (p : Plan) (t : Tables) (e : List ℕ) where
         (swap by-leader 13 _ _ _ _ (λ h. inr (inr h)) room
         (swap by-leader 14 _ _ _ _ (λ h. h) (λ h. h) (λ r. r)))))))
         (tail by-leader 7 _ _ (λ h. ⊎-elim (no-false event) (λ k. omega arith) h)
+        (tail by-leader 20 _ _ (summary-right (p .rms) (ownSummary p t e) (own-right p t e s right event large))
         (tail by-leader 6 _ _ (no-false (s .inboxes-ordered (whoOf e) (leader-who p e event large)))
         (tail by-leader 5 _ _ (no-false (s .network-ordered))
         (tail by-leader 2 _ _ (λ h. ⊎-elim (no-false (inbox-whole p t s (whoOf e) (leader-who p e event large))) (no-false (s .network-whole)) h)
         (tail by-leader 1 _ _ (no-false (s .plan))
-        (leader-ruled p (ownDecided p t e) (Leader.DecidedIn p (setOf (messages p (ownInbox p t e)))) (ownInbox p t e) (t .network) e (reflects-inbox p _)
-        (rmStateOf (t .states)) (aStateOf p (t .votes))))))))
+        (own-ruled p (ownInbox p t e) (ownSummary p t e) (t .network) e (rmStateOf (t .states)) (aStateOf p (t .votes)))))))))
       where
         not-taken : NotTaken p t e → (kindOf e ≡ 4) × SlotHolds p (t .network) e (λ m. Leader.isReceived m ≡ false)
         not-taken (inl h) = absurd (omega (arith, h .0))
         not-taken (inr (inl h)) = absurd (omega (arith, h .0))
         not-taken (inr (inr h)) = h
 
-        enabled : Disabled p t e → Leader.Disabled p (ownInbox p t e) e (recordState p t)
+        enabled : Disabled p t e → Leader.DisabledBy p (OwnStands p t e) (ownInbox p t e) e (recordState p t)
         enabled (here (here h)) = absurd (omega (arith, h .0))
         enabled (here (below h)) = absurd (omega (arith, h .0))
         enabled (below (here h)) = absurd (omega (arith, h .0))
@@ -235,13 +236,13 @@ module _ (p : Plan) (t : Tables) (e : List ℕ) where
         room (inr (inl h)) = absurd (omega (arith, h .0))
         room (inr (inr h)) = h
 
-    rest-ruled : Ruled (roleStep p t e .answer) Rest
+    rest-ruled : Ruled (markedStep p t e .answer) Rest
     rest-ruled = go (roleOf e)
       where
-        go : Role e → Ruled (roleStep p t e .answer) Rest
-        go (rm h) = rw (role-rm p t e h) (rm-rest h)
-        go (acceptor h) = rw (role-acceptor p t e h) (acceptor-rest h)
-        go (leader h) = rw (role-leader p t e h) (leader-rest h)
+        go : Role e → Ruled (markedStep p t e .answer) Rest
+        go (rm h) = subst (λ (r : RecordStep). Ruled (r .answer) Rest) (sym (role-rm p t e h)) (rm-rest h)
+        go (acceptor h) = subst (λ (r : RecordStep). Ruled (r .answer) Rest) (sym (role-acceptor p t e h)) (acceptor-rest h)
+        go (leader h) = subst (λ (r : RecordStep). Ruled (r .answer) Rest) (sym (role-leader p t e s right event h)) (leader-rest h)
 
   -- the chain of `recordStep`, row by row
   module _ (next : Unit {0} → Outcome RecordStep) where
@@ -252,28 +253,40 @@ module _ (p : Plan) (t : Tables) (e : List ℕ) where
     first-row false k T rows rest holds fails go = here (refl, (holds refl, tt))
     first-row true k T rows rest holds fails go = skip (settled t (andThen rest next) .answer) k T rows rows (fails refl) (λ r. r) (go refl)
 
-  event-row : (b : Bool) → isEvent p e ≡ b → (isEvent p e ≡ true → Ruled (roleStep p t e .answer) Rest)
-      → Ruled (settled t (refuseIf (not b) 7 (accepted (roleStep p t e))) .answer) (row 7 (isEvent p e ≡ false) Rest)
+  event-row : (b : Bool) → isEvent p e ≡ b → (isEvent p e ≡ true → Ruled (markedStep p t e .answer) Rest)
+      → Ruled (settled t (refuseIf (not b) 7 (accepted (markedStep p t e))) .answer) (row 7 (isEvent p e ≡ false) Rest)
   unfolding Ruled refuseIf
   event-row false is go = here (refl, (is, tt))
-  event-row true is go = skip (roleStep p t e .answer) 7 _ Rest Rest (no-false is) (λ r. r) (go is)
+  event-row true is go = skip (markedStep p t e .answer) 7 _ Rest Rest (no-false is) (λ r. r) (go is)
+
+  -- the event's rows
+  abbrev next : Unit {0} → Outcome RecordStep
+  next _ = refuseIf (not (isEvent p e)) 7 (accepted (markedStep p t e))
+
+  -- row 20 before them
+  abbrev lent : Unit {0} → Outcome RecordStep
+  lent _ = andThen {A = Unit {0}} (refuseIf (not (isSummary (p .rms * p .leaders) (t .summary))) 20 (accepted tt)) next
+
+  lent-then : recordStep p t e ≡ settled t (andThen (recordJudged p t) lent)
+  unfolding recordStep lentJudged andThen
+  lent-then = go (recordJudged p t)
+    where
+      go : (o : Outcome (Unit {0}))
+          → settled t (andThen (andThen {B = Unit {0}} o (λ _. refuseIf (not (isSummary (p .rms * p .leaders) (t .summary))) 20 (accepted tt))) next)
+          ≡ settled t (andThen o lent)
+      go (accepted a) = refl
+      go (refused k) = refl
 
   pub record-ruled : Ruled (recordStep p t e .answer) (recordRows p t e)
-  unfolding recordStep recordJudged andThen areInboxes
+  unfolding recordJudged andThen areInboxes
   record-ruled =
-      first-row next (isPlan p) 1 _ _ _ (λ h. h) no-false (λ plan.
-      first-row next (areLengths p t) 2 _ _ _ (wrong-lengths p t) (right-lengths p t) (λ lengths.
-      first-row next (areStates (t .states)) 3 _ _ _ (λ h. h) no-false (λ states.
-      first-row next (areVotes (t .votes)) 4 _ _ _ (λ h. h) no-false (λ votes.
-      first-row next (isTable p (t .network)) 5 _ _ _ (λ h. h) no-false (λ network.
-      first-row next (areInboxes p (t .inboxes)) 6 _ _ _ (forAll-fails _ (p .leaders))
+      rw lent-then
+      (first-row lent (isPlan p) 1 _ _ _ (λ h. h) no-false (λ plan.
+      first-row lent (areLengths p t) 2 _ _ _ (wrong-lengths p t) (right-lengths p t) (λ lengths.
+      first-row lent (areStates (t .states)) 3 _ _ _ (λ h. h) no-false (λ states.
+      first-row lent (areVotes (t .votes)) 4 _ _ _ (λ h. h) no-false (λ votes.
+      first-row lent (isTable p (t .network)) 5 _ _ _ (λ h. h) no-false (λ network.
+      first-row lent (areInboxes p (t .inboxes)) 6 _ _ _ (forAll-fails _ (p .leaders))
       (λ all h. no-false (forAll-all _ (p .leaders) all (h .0) (h .1)) (h .2)) (λ inboxes.
-      event-row (isEvent p e) refl (rest-ruled (sound-parts plan lengths states votes network inboxes))))))))
-    where
-      next : Unit {0} → Outcome RecordStep
-      next _ = refuseIf (not (isEvent p e)) 7 (accepted (roleStep p t e))
-
-      sound-parts : isPlan p ≡ true → areLengths p t ≡ true → areStates (t .states) ≡ true → areVotes (t .votes) ≡ true
-          → isTable p (t .network) ≡ true → areInboxes p (t .inboxes) ≡ true → Sound p t
-      sound-parts plan l states votes network inboxes =
-          sound-of p t plan l states votes network inboxes
+      first-row next (isSummary (p .rms * p .leaders) (t .summary)) 20 _ _ (accepted tt) (summary-wrong _ (t .summary)) (summary-right _ (t .summary)) (λ right.
+      event-row (isEvent p e) refl (rest-ruled (sound-of p t plan lengths states votes network inboxes) right)))))))))

@@ -31,18 +31,18 @@ use Rattle.rm.specs.Rm.{rmStep}
 use Rattle.rm.specs.Rm.Laws as RmSound
 use Rattle.acceptor.specs.Acceptor.{acceptorReceive, acceptorStep}
 use Rattle.acceptor.specs.Acceptor.Sound as AcceptorSound
-use Rattle.inbox.specs.Inbox.{decided}
-use Rattle.leader.specs.Leader.{receipt, leaderKind, leaderStep}
+use Rattle.leader.specs.Leader.{stands, receipt, leaderKind, leaderStep}
 use Rattle.leader.specs.Leader.Sound as LeaderSound
 use Rattle.matching.specs.Call.{roomOf, Sends}
 use Rattle.matching.specs.Call.Laws.{andThen-accepted}
 use Rattle.matching.specs.Rm.Laws as Rm
 use Rattle.matching.specs.Acceptor.Laws as Acceptor
 use Rattle.matching.specs.Leader.Took as LeaderTook
-use Rattle.matching.specs.Leader.Laws as Leader
+use Rattle.matching.specs.Leader.Own as Own
 use Rattle.matching.specs.Theorems as Match
 use Rattle.record.specs.Record.{Tables, recordStep}
 use Rattle.record.specs.Record.Laws.{Sound, sound, judged}
+use Rattle.record.specs.Record.Summary.{lent-judged, lent-sound}
 use Rattle.conformance.specs.Record.{Acted, prepares, chooses-to-abort, receives-commit, receives-abort, promises, casts-vote}
 use Rattle.conformance.specs.Record.{receives, opens-ballot, proposes, commits, aborts}
 use Rattle.conformance.specs.Record.Steps.{taken, stays-sound}
@@ -81,7 +81,9 @@ pub slot-below : (p : Plan) (t : Tables) (e : List ℕ) (s : ℕ) → recordStep
 slot-below p t e s is = go (acts p t e (Slot s) is)
   where
     after : Sound p (recordStep p t e .tables)
-    after = sound p _ (stays-sound p t e (judged p t (taken p t e (Slot s) is .tables)))
+    after =
+        let u = taken p t e (Slot s) is in
+        sound p _ (lent-sound p _ (stays-sound p t e (lent-judged p t (judged p t (u .tables)) (u .right))) .0)
 
     by : (m : Wire.Message) → Sends p (t .network) m (recordStep p t e .answer) (recordStep p t e .tables .network)
         → (s < roomOf (recordStep p t e .tables .network)) × (s < maxSlots)
@@ -157,9 +159,9 @@ module _ (p : Plan) (e : List ℕ) (s : ℕ) where
       go (Phase2b ins acc bal val) at change got = absurd (accepted-not-refused got)
       go (Decision val) at change got = absurd (accepted-not-refused got)
 
-  pub leader-slot : (inbox network : List ℕ) → leaderStep p inbox network e .answer ≡ accepted (Slot s) → s < maxSlots
+  pub leader-slot : (inbox summary network : List ℕ) → leaderStep p inbox summary network e .step .answer ≡ accepted (Slot s) → s < maxSlots
   unfolding leaderKind
-  leader-slot inbox network is = go (ℕ-discrete (kindOf e) 4) (ℕ-discrete (kindOf e) 5) (ℕ-discrete (kindOf e) 6) (ℕ-discrete (kindOf e) 7)
+  leader-slot inbox summary network is = go (ℕ-discrete (kindOf e) 4) (ℕ-discrete (kindOf e) 5) (ℕ-discrete (kindOf e) 6) (ℕ-discrete (kindOf e) 7)
     where
       none : ℕ → ℕ
       none i = 0
@@ -167,15 +169,15 @@ module _ (p : Plan) (e : List ℕ) (s : ℕ) where
       first : ℕ → ℕ → AState
       first i a = initial
 
-      took : LeaderTook.Took p (decided p (messages p inbox)) inbox network e
-      took = LeaderTook.took p (decided p (messages p inbox)) inbox network e (Slot s, is)
+      took : LeaderTook.Took p (stands summary) inbox network e
+      took = Own.own-took p inbox summary network e (Slot s, is)
 
-      after : LeaderSound.Sound p (leaderStep p inbox network e .table) (leaderStep p inbox network e .network)
+      after : LeaderSound.Sound p (leaderStep p inbox summary network e .step .table) (leaderStep p inbox summary network e .step .network)
       after =
-          let (j, l, n) = Leader.stays-sound p (decided p (messages p inbox)) inbox network e (LeaderSound.judged p inbox network (took .tables)) in
-          LeaderSound.sound p (leaderStep p inbox network e .table) (leaderStep p inbox network e .network) j
+          let (j, l, n, kept) = Own.own-sound p inbox summary network e (LeaderSound.judged p inbox network (took .tables)) in
+          LeaderSound.sound p (leaderStep p inbox summary network e .step .table) (leaderStep p inbox summary network e .step .network) j
 
-      by : (m : Wire.Message) → Sends p network m (leaderStep p inbox network e .answer) (leaderStep p inbox network e .network) → s < maxSlots
+      by : (m : Wire.Message) → Sends p network m (leaderStep p inbox summary network e .step .answer) (leaderStep p inbox summary network e .step .network) → s < maxSlots
       by m sends = sent-below p network m _ _ s (after .network-whole) (after .network-ordered) sends is .1
 
       receipt-quiet : kindOf e ≡ 4 → s < maxSlots
@@ -183,14 +185,14 @@ module _ (p : Plan) (e : List ℕ) (s : ℕ) where
           let got : andThen (messageAt (messages p network) (slotNumber e)) (receipt (viewTable p inbox)) ≡ accepted (took .change)
           = rw kind at (took .verdict) in
           let (m, at, ok) = andThen-accepted _ (receipt (viewTable p inbox)) _ got in
-          quiet-no-slot (leaderStep p inbox network e .answer) s (Match.leader-receipt p inbox network e none first (Slot s, is) kind m at .0) is
+          quiet-no-slot (leaderStep p inbox summary network e .step .answer) s (Match.leader-receipt p inbox summary network e none first (Slot s, is) kind m at .0) is
 
       go : Dec (kindOf e ≡ 4) → Dec (kindOf e ≡ 5) → Dec (kindOf e ≡ 6) → Dec (kindOf e ≡ 7) → s < maxSlots
       go (yes k) d5 d6 d7 = receipt-quiet k
-      go (no n4) (yes k) d6 d7 = by _ (Match.leader-phase1a p inbox network e none first (Slot s, is) k .1)
-      go (no n4) (no n5) (yes k) d7 = by _ (Match.leader-phase2a p inbox network e none first (Slot s, is) k .2)
-      go (no n4) (no n5) (no n6) (yes k) = by _ (Match.leader-commit p inbox network e none first (Slot s, is) k .1)
+      go (no n4) (yes k) d6 d7 = by _ (Match.leader-phase1a p inbox summary network e none first (Slot s, is) k .1)
+      go (no n4) (no n5) (yes k) d7 = by _ (Match.leader-phase2a p inbox summary network e none first (Slot s, is) k .2)
+      go (no n4) (no n5) (no n6) (yes k) = by _ (Match.leader-commit p inbox summary network e none first (Slot s, is) k .1)
       go (no n4) (no n5) (no n6) (no n7) =
           let last = event-parts p e (took .event) .kind in
           let least = took .least in
-          let k : kindOf e ≡ 8 = omega arith in by _ (Match.leader-abort p inbox network e none first (Slot s, is) k .1)
+          let k : kindOf e ≡ 8 = omega arith in by _ (Match.leader-abort p inbox summary network e none first (Slot s, is) k .1)

@@ -1,62 +1,53 @@
--- `decided::vote_step` meets its contract: the branches decide whether the slot counts, and whether the set is a majority. Assumes nothing.
+-- `decided::vote_step` meets its contract: the branch decides whether the slot counts, and a ballot has its set. Assumes nothing.
+use mathlib.Core.Path.{refl}
 use borrow.Author.Needs.{needs}
-use Rattle.decided.proofs.Voting.{vote-other, vote-rms, vote-major, vote-minor, flag-bound, cell-bound}
+use mir.Facts.{fits-8-64}
+use Rattle.decided.proofs.Voting.{vote-other, vote-taken}
 use Rattle.decided.proofs.vote_step.Statement.{statement}
 use Rattle.decided.proofs.vote_step.Tie as tie
 
--- the way back: from the majority to the cell, to the tests of the instance and of map and value, and to the start
-abbrev at-cell : tie.After-is-majority → tie.After-pair-of3
-at-cell c = c .before .before .before .before
+-- the way back: from the slot's number to the start
+abbrev at-start : tie.After-word → tie.Start
+at-start c = c .before .before .before .before .before
 
-abbrev at-rms : tie.After-pair-of3 → tie.Else2
-at-rms c = c .before .before
+shared-slice-read-word : tie.Need-shared-slice-read-word
+shared-slice-read-word c = search needs
 
-abbrev at-value : tie.Else2 → tie.Else1
-at-value c = c .before .before .before
+add-word : tie.Need-add-word
+add-word c = search needs
 
-abbrev at-start : tie.Else1 → tie.Start
-at-start c = c .before .before .before .before .before .before
+shared-slice-read-word-2 : tie.Need-shared-slice-read-word-2
+shared-slice-read-word-2 c = search needs
 
-add-pair-of : tie.Need-add-pair-of
-add-pair-of c = search needs
+add-word-2 : tie.Need-add-word-2
+add-word-2 c = search needs
 
-shared-slice-read-pair-of : tie.Need-shared-slice-read-pair-of
-shared-slice-read-pair-of c = search needs
+shared-slice-read-word-3 : tie.Need-shared-slice-read-word-3
+shared-slice-read-word-3 c = search needs
 
-shared-slice-read-pair-of-2 : tie.Need-shared-slice-read-pair-of-2
-shared-slice-read-pair-of-2 c = search needs
+word-requires : tie.Need-word-requires
+word-requires c κs = tt
 
-pair-of-requires : tie.Need-pair-of-requires
-pair-of-requires c κs = tt
-
-pair-of-requires-2 : tie.Need-pair-of-requires-2
-pair-of-requires-2 c κs = tt
+word-requires-2 : tie.Need-word-requires-2
+word-requires-2 c κs = tt
 
 returns : tie.Need-returns
-returns c = vote-other _ _ _ _ _ _ (c .before .before .pair-of .ensures) (c .before .pair-of2 .ensures) (c .if1 .taken) _
+returns c =
+    let at-wanted = c .before in
+    let at-form = at-wanted .before in
+    vote-other _ _ (at-start at-form .args .plan) _ _ _ _ _ (at-form .word .ensures) (at-wanted .word2 .ensures) (c .if1 .taken)
 
-add-ins : tie.Need-add-ins
-add-ins c = search needs
+add-bal : tie.Need-add-bal
+add-bal c = search needs
 
-shared-slice-read-ins : tie.Need-shared-slice-read-ins
-shared-slice-read-ins c = search needs
+shared-slice-read-bal : tie.Need-shared-slice-read-bal
+shared-slice-read-bal c = search needs
 
-returns-2 : tie.Need-returns-2
-returns-2 c = vote-rms _ _ _ _ (c .if2 .taken) _
-
-add-pair-of-2 : tie.Need-add-pair-of-2
-add-pair-of-2 c = search needs
-
-shared-slice-read-pair-of-3 : tie.Need-shared-slice-read-pair-of-3
-shared-slice-read-pair-of-3 c = search needs
-
-pair-of-requires-3 : tie.Need-pair-of-requires-3
-pair-of-requires-3 c κs = tt
+cast-bal : tie.Need-cast-bal
+cast-bal c = fits-8-64 (c .shared-slice-known5 .given _)
 
 element-copy-out-insert-bit : tie.Need-element-copy-out-insert-bit
-element-copy-out-insert-bit c =
-    let at-ins = at-rms c in
-    cell-bound _ (at-start (at-value at-ins) .pre .0) _ (at-ins .if2 .left) _ _ (c .pair-of3 .ensures)
+element-copy-out-insert-bit c = c .shared-slice-known5 .given _ .fits
 
 add-insert-bit : tie.Need-add-insert-bit
 add-insert-bit c = search needs
@@ -68,61 +59,40 @@ insert-bit-requires : tie.Need-insert-bit-requires
 insert-bit-requires c κs = tt
 
 element-write-masks : tie.Need-element-write-masks
-element-write-masks c =
-    let at-pair = c .before .before .before in
-    let at-ins = at-rms at-pair in
-    cell-bound _ (at-start (at-value at-ins) .pre .0) _ (at-ins .if2 .left) _ _ (at-pair .pair-of3 .ensures)
+element-write-masks c = let at-bal = c .before .before .before in at-bal .shared-slice-known5 .given _ .fits
 
 is-majority-requires : tie.Need-is-majority-requires
 is-majority-requires c κs = tt
 
-set-flag-requires : tie.Need-set-flag-requires
-set-flag-requires c κs =
-    let at-ins = at-rms (at-cell (c .before)) in
-    flag-bound _ (at-start (at-value at-ins) .pre .0) _ (at-ins .if2 .left)
-
-returns-3 : tie.Need-returns-3
-returns-3 c =
-    let at-majority = c .before .before in
-    let at-pair = at-cell at-majority in
-    let at-ins = at-rms at-pair in
-    let at-2b = at-value at-ins in
-    vote-major _ _ _ _ _ _ (at-2b .before .before .pair-of .ensures) (at-2b .before .pair-of2 .ensures) (at-2b .if1 .left) (at-ins .if2 .left)
-    _ _ _ (at-pair .pair-of3 .ensures) _ (at-majority .before .insert-bit .ensures) _ (at-majority .is-majority .ensures)
-    (c .before .if3 .taken) _ (c .set-flag .ensures)
-
-returns-4 : tie.Need-returns-4
-returns-4 c =
-    let at-majority = c .before in
-    let at-pair = at-cell at-majority in
-    let at-ins = at-rms at-pair in
-    let at-2b = at-value at-ins in
-    vote-minor _ _ _ _ _ _ (at-2b .before .before .pair-of .ensures) (at-2b .before .pair-of2 .ensures) (at-2b .if1 .left) (at-ins .if2 .left)
-    _ _ _ (at-pair .pair-of3 .ensures) _ (at-majority .before .insert-bit .ensures) _ (at-majority .is-majority .ensures)
-    (c .if3 .left)
+returns-2 : tie.Need-returns-2
+returns-2 c =
+    let at-insert = c .before in
+    let at-bal = at-insert .before .before .before in
+    let at-2b = at-bal .before in
+    let at-wanted = at-2b .before in
+    let at-form = at-wanted .before in
+    vote-taken _ _ (at-start at-form .args .plan) _ _ _ _ _ (at-form .word .ensures) (at-wanted .word2 .ensures) (at-2b .if1 .left)
+    _ refl _ (at-insert .insert-bit .ensures) _ (c .is-majority .ensures)
 
 pub vote-step-spec : {M : Type 1} → statement M
 vote-step-spec =
     tie.close
     (tie.spec
-    add-pair-of
-    shared-slice-read-pair-of
-    shared-slice-read-pair-of-2
-    pair-of-requires
-    pair-of-requires-2
+    shared-slice-read-word
+    add-word
+    shared-slice-read-word-2
+    add-word-2
+    shared-slice-read-word-3
+    word-requires
+    word-requires-2
     returns
-    add-ins
-    shared-slice-read-ins
-    returns-2
-    add-pair-of-2
-    shared-slice-read-pair-of-3
-    pair-of-requires-3
+    add-bal
+    shared-slice-read-bal
+    cast-bal
     element-copy-out-insert-bit
     add-insert-bit
     shared-slice-read-insert-bit
     insert-bit-requires
     element-write-masks
     is-majority-requires
-    set-flag-requires
-    returns-3
-    returns-4)
+    returns-2)

@@ -58,8 +58,9 @@ module _ (p q : Plan) (differs : p .order ≡ q .order → ⊥) (m : Message) (g
     pub acceptor-row : List·Memᴰ (writeMessage q m .bytes) (slots network) → Applies (acceptorRows p table network e s) 5
     acceptor-row there = below (below (below (here (refl, (bad-table network there, tt)))))
 
-    pub leader-row : List·Memᴰ (writeMessage q m .bytes) (slots network) → Applies (leaderRows p table network e s) 5
+  module _ (table summary network e : List ℕ) (s : State) where
+    pub leader-row : List·Memᴰ (writeMessage q m .bytes) (slots network) → Applies (leaderRows p table summary network e s) 5
     leader-row there = below (below (here (refl, (bad-table network there, tt))))
 
-    pub leader-inbox-row : List·Memᴰ (writeMessage q m .bytes) (slots table) → Applies (leaderRows p table network e s) 6
+    pub leader-inbox-row : List·Memᴰ (writeMessage q m .bytes) (slots table) → Applies (leaderRows p table summary network e s) 6
     leader-inbox-row there = below (below (below (here (refl, (bad-table table there, tt)))))

@@ -27,6 +27,9 @@ same-length-4 c = search needs
 same-length-5 : tie.Need-same-length-5
 same-length-5 c = search needs
 
+same-length-6 : tie.Need-same-length-6
+same-length-6 c = search needs
+
 returns : tie.Need-returns
 returns c = search needs
 
@@ -45,4 +48,5 @@ run-event-spec =
     same-length-3
     same-length-4
     same-length-5
+    same-length-6
     returns)

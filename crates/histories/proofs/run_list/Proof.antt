@@ -36,6 +36,9 @@ same-length-5 c = search needs
 same-length-6 : tie.Need-same-length-6
 same-length-6 c = search needs
 
+same-length-7 : tie.Need-same-length-7
+same-length-7 c = search needs
+
 returns : tie.Need-returns
 returns c = search needs
 
@@ -57,4 +60,5 @@ run-list-spec =
     same-length-4
     same-length-5
     same-length-6
+    same-length-7
     returns)

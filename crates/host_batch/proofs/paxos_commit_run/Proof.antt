@@ -25,9 +25,12 @@ same-length-4 c = search needs
 same-length-5 : tie.Need-same-length-5
 same-length-5 c = search needs
 
+same-length-6 : tie.Need-same-length-6
+same-length-6 c = search needs
+
 returns : tie.Need-returns
 returns c =
-    let at-call = c .before .before .before .before .before .before .before .before .before .before .before in
+    let at-call = c .before .before .before .before .before .before .before .before .before .before .before .before .before in
     run-coded (at-call .run .ensures) (c .judged-number .ensures)
 
 pub paxos-commit-run-spec : {M : Type 1} → statement M
@@ -41,4 +44,5 @@ paxos-commit-run-spec =
     same-length-3
     same-length-4
     same-length-5
+    same-length-6
     returns)

@@ -22,10 +22,14 @@ same-length-3 c = search needs
 same-length-4 : tie.Need-same-length-4
 same-length-4 c = search needs
 
+same-length-5 : tie.Need-same-length-5
+same-length-5 c = search needs
+
 returns : tie.Need-returns
 returns c =
-    let at-call = c .before .before .before .before .before .before .before .before .before in
+    let at-call = c .before .before .before .before .before .before .before .before .before .before .before in
     opening-coded (at-call .«open» .ensures) (c .judged-number .ensures)
 
 pub paxos-commit-open-spec : {M : Type 1} → statement M
-paxos-commit-open-spec = tie.close (tie.spec open-requires judged-number-requires same-length same-length-2 same-length-3 same-length-4 returns)
+paxos-commit-open-spec =
+    tie.close (tie.spec open-requires judged-number-requires same-length same-length-2 same-length-3 same-length-4 same-length-5 returns)

@@ -22,10 +22,14 @@ same-length-3 c = search needs
 same-length-4 : tie.Need-same-length-4
 same-length-4 c = search needs
 
+same-length-5 : tie.Need-same-length-5
+same-length-5 c = search needs
+
 returns : tie.Need-returns
 returns c =
-    let at-call = c .before .before .before .before .before .before .before .before .before in
+    let at-call = c .before .before .before .before .before .before .before .before .before .before .before in
     event-coded (at-call .step .ensures) (c .answer-code .ensures)
 
 pub paxos-commit-step-spec : {M : Type 1} → statement M
-paxos-commit-step-spec = tie.close (tie.spec step-requires answer-code-requires same-length same-length-2 same-length-3 same-length-4 returns)
+paxos-commit-step-spec =
+    tie.close (tie.spec step-requires answer-code-requires same-length same-length-2 same-length-3 same-length-4 same-length-5 returns)

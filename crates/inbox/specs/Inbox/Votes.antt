@@ -1,20 +1,19 @@
--- Decided, gathered message by message, and that this is what Inbox.antt says. For each instance and ballot there is a set of the
--- acceptors with a 2b of the value; when it becomes a majority, the instance's flag is set.
---     Tally, noVotes, voteStep     the sets and the flags, before the first message, and one message further
---     smallBallot                  a 2b's ballot is a byte
---     Counts                       what was gathered and what is ahead make up what all messages say
---     counts-start, -next, -early, -end    before the first message, one message further, with some ahead, and with none left
+-- Decided for one instance and value, gathered message by message, and that this is what Inbox.antt says. For each ballot there is a set of
+-- the acceptors with a 2b of the instance and value; where one becomes a majority, the value is decided.
+--     Tally, voteStep     one message further: the sets, and whether the one that was joined is a majority
+--     smallBallot         a 2b's ballot is a byte
+--     Counts              what was gathered and what is ahead make up what all messages say
+--     counts-start, -next, -major, -end    before the first message, one message further, at a majority, and with none left
 -- Assumes nothing.
-use Prim.Native.Nat.{ℕ, _+_, _*_, _^_, _≤_, _<_}
-use mathlib.Core.Bool.{Bool, true, false, _&&_, _||_, cond, or-true, or-false, or-assoc, and-false, false≢true}
+use Prim.Native.Nat.{ℕ, _<_}
+use mathlib.Core.Bool.{Bool, true, false, _&&_, _||_, cond, or-true, or-false, and-false, false≢true}
 use mathlib.Core.List.{List, [], _∷_}
 use mathlib.Core.Path.{_≡_, refl, sym, _∙_, ap, ap₂}
 use native.Mathlib.Omega.{arith}
 use lib.Dec.{ltb, eqb}
 use lib.ListN.{length, getD, set, replicate, length-set, length-replicate, getD-replicate}
-use lib.Pow.{pow-pos}
 use lib.Seq.{getD-set-same, getD-set-other}
-use borrow.Author.Tests.{ltb-true, ltb-false, ne-eqb, eqb-true, eqb-false}
+use borrow.Author.Tests.{ltb-true, eqb-true, eqb-false}
 use Rattle.message.specs.declared.Plan.{Plan}
 use Rattle.message.specs.declared.Message.{Message}
 use Rattle.message.specs.declared.Message.the-variants.{Phase1a, Phase1b, Phase2a, Phase2b, Decision}
@@ -23,41 +22,38 @@ use Rattle.message.specs.Plan.Laws.{plan-bounds}
 use Rattle.message.specs.Outcome.Laws.{both}
 use Rattle.quorum.specs.Quorum.{isMajority, isQuorum}
 use Rattle.quorum.specs.Quorum.Laws.{quorum-apart}
-use Rattle.quorum.specs.Mask.{hasBit, insertBit, join, ones}
-use Rattle.quorum.specs.Mask.Laws.{hasBit-zero, hasBit-insert, hasBit-other, insert-bound, join-bit, mask-quorum}
+use Rattle.quorum.specs.Mask.{hasBit, join, ones}
+use Rattle.quorum.specs.Mask.Laws.{hasBit-zero, join-bit, mask-quorum}
 use Rattle.inbox.specs.Inbox.{any, is2b, chosen, isChosen2b, decided}
 use Rattle.inbox.specs.Inbox.Reports.{or-next}
 
--- the set of instance i and ballot b stands at 256 × i + b; the flags are bits
+-- the set of ballot b stands at b
 pub record Tally : Type 0 where
   pub masks : List ℕ
-  pub flags : ℕ
+  pub major : Bool
 
-abbrev pub tally : List ℕ → ℕ → Tally
-tally masks flags = record { masks = masks; flags = flags }
+abbrev pub tally : List ℕ → Bool → Tally
+tally masks major = record { masks = masks; major = major }
 
-abbrev pub noVotes : Tally
-noVotes = tally (replicate 4096 0) 0
+-- an acceptor joins the set of a ballot
+unfoldable pub joined : List ℕ → ℕ → ℕ → ℕ
+joined masks acc bal = join (getD masks bal 0) acc
 
--- an acceptor joins the set of an instance and ballot
-unfoldable pub joined : Tally → ℕ → ℕ → ℕ → ℕ
-joined s ins acc bal = join (getD (s .masks) (256 * ins + bal) 0) acc
-
-unfoldable pub tallied : Plan → Tally → ℕ → ℕ → ℕ → Tally
+unfoldable pub tallied : Plan → List ℕ → ℕ → ℕ → Tally
 unfolding joined
-tallied p s ins acc bal =
+tallied p masks acc bal =
     record {
-      masks = set (s .masks) (256 * ins + bal) (joined s ins acc bal);
-      flags = cond (isMajority (p .acceptors) (ones (p .acceptors) (joined s ins acc bal))) (insertBit (s .flags) ins) (s .flags);
+      masks = set masks bal (joined masks acc bal);
+      major = isMajority (p .acceptors) (ones (p .acceptors) (joined masks acc bal));
     }
 
--- a 2b of the value for an instance of the plan
-unfoldable pub voteStep : Plan → ℕ → Tally → Message → Tally
-voteStep p v s (Phase1a _ _) = s
-voteStep p v s (Phase1b _ _ _ _) = s
-voteStep p v s (Phase2a _ _ _) = s
-voteStep p v s (Phase2b ins acc bal val) = cond (eqb val v && ltb ins (p .rms)) (tallied p s ins acc bal) s
-voteStep p v s (Decision _) = s
+-- a 2b of the instance and value
+unfoldable pub voteStep : Plan → ℕ → ℕ → List ℕ → Message → Tally
+voteStep p i v masks (Phase1a _ _) = tally masks false
+voteStep p i v masks (Phase1b _ _ _ _) = tally masks false
+voteStep p i v masks (Phase2a _ _ _) = tally masks false
+voteStep p i v masks (Phase2b ins acc bal val) = cond (eqb ins i && eqb val v) (tallied p masks acc bal) (tally masks false)
+voteStep p i v masks (Decision _) = tally masks false
 
 unfoldable pub smallBallot : Message → Bool
 smallBallot (Phase1a _ _) = true
@@ -66,13 +62,11 @@ smallBallot (Phase2a _ _ _) = true
 smallBallot (Phase2b ins acc bal val) = ltb bal 256
 smallBallot (Decision _) = true
 
--- what was gathered and what is ahead make up what all messages say
-pub record Counts (p : Plan) (v : ℕ) (ms : List Message) (s : Tally) (rest : List Message) : Type 0 where
-  pub size : length (s .masks) ≡ 4096
-  pub low : s .flags < 2 ^ p .rms
-  pub voted : (i b a : ℕ) → i < p .rms → b < 256 → a < 8
-      → any (is2b i b v a) ms ≡ (hasBit (getD (s .masks) (256 * i + b) 0) a || any (is2b i b v a) rest)
-  pub decides : (i : ℕ) → i < p .rms → decided p ms i v ≡ (hasBit (s .flags) i || any (isChosen2b p ms i v) rest)
+-- what was gathered and what is ahead make up what all messages say; what was gathered decides nothing by itself
+pub record Counts (p : Plan) (i v : ℕ) (ms : List Message) (masks : List ℕ) (rest : List Message) : Type 0 where
+  pub size : length masks ≡ 256
+  pub voted : (b a : ℕ) → b < 256 → a < 8 → any (is2b i b v a) ms ≡ (hasBit (getD masks b 0) a || any (is2b i b v a) rest)
+  pub decides : decided p ms i v ≡ any (isChosen2b p ms i v) rest
 
 -- a 2b of a ballot at which (i, v) is chosen is a chosen one
 module _ (p : Plan) (ms : List Message) (i b v a : ℕ) (c : chosen p ms i b v ≡ true) where
@@ -98,173 +92,148 @@ module _ (p : Plan) (ms : List Message) (i b v a : ℕ) (c : chosen p ms i b v �
       go true k e more = rw (2b-chosen m k)
       go false k e more = rw (more e) (or-true (isChosen2b p ms i v m))
 
--- the sets after a joining
-module _ (p : Plan) (s : Tally) (ins acc bal : ℕ) (long : length (s .masks) ≡ 4096) (h : ins < 16) (k : bal < 256) where
-  same-set : getD (tallied p s ins acc bal .masks) (256 * ins + bal) 0 ≡ joined s ins acc bal
+-- one 2b of the instance and value further
+module _ (p : Plan) (plan : isPlan p ≡ true) (i v : ℕ) (ms : List Message) (masks : List ℕ) (ins acc bal val : ℕ) (rest : List Message)
+    (inv : Counts p i v ms masks (Phase2b ins acc bal val ∷ rest)) (instance : eqb ins i ≡ true) (value : eqb val v ≡ true) (h : bal < 256) where
+  same-set : getD (tallied p masks acc bal .masks) bal 0 ≡ joined masks acc bal
   unfolding tallied
-  same-set = getD-set-same (s .masks) (256 * ins + bal) (joined s ins acc bal) 0 (rw long (omega arith))
+  same-set = getD-set-same masks bal (joined masks acc bal) 0 (rw (inv .size) h)
 
-  other-set : (i b : ℕ) → (256 * i + b ≡ 256 * ins + bal → ⊥) → getD (tallied p s ins acc bal .masks) (256 * i + b) 0 ≡ getD (s .masks) (256 * i + b) 0
+  other-set : (b : ℕ) → (b ≡ bal → ⊥) → getD (tallied p masks acc bal .masks) b 0 ≡ getD masks b 0
   unfolding tallied
-  other-set i b n = getD-set-other (s .masks) (256 * ins + bal) (256 * i + b) (joined s ins acc bal) 0 n
+  other-set b n = getD-set-other masks bal b (joined masks acc bal) 0 n
 
-  joined-bit : (a : ℕ) → a < 8 → hasBit (joined s ins acc bal) a ≡ (hasBit (getD (s .masks) (256 * ins + bal) 0) a || eqb acc a)
+  joined-bit : (a : ℕ) → a < 8 → hasBit (joined masks acc bal) a ≡ (hasBit (getD masks bal 0) a || eqb acc a)
   unfolding joined
-  joined-bit a small = join-bit (getD (s .masks) (256 * ins + bal) 0) acc a small
+  joined-bit a low = join-bit (getD masks bal 0) acc a low
 
-  module _ (i b a : ℕ) (l : b < 256) (small : a < 8) (v val : ℕ) (value : eqb val v ≡ true) where
-    bit-next : hasBit (getD (tallied p s ins acc bal .masks) (256 * i + b) 0) a
-        ≡ (hasBit (getD (s .masks) (256 * i + b) 0) a || is2b i b v a (Phase2b ins acc bal val))
-    unfolding is2b
-    bit-next = rw value (go (eqb ins i) refl (eqb bal b) refl)
-      where
-        go : (x : Bool) → eqb ins i ≡ x → (y : Bool) → eqb bal b ≡ y
-            → hasBit (getD (tallied p s ins acc bal .masks) (256 * i + b) 0) a ≡ (hasBit (getD (s .masks) (256 * i + b) 0) a || (x && (y && eqb acc a)))
-        go true e true f = rw (← eqb-true ins i e, ← eqb-true bal b f, same-set) (joined-bit a small)
-        go true e false f = rw (other-set i b (λ q. eqb-false bal b f (omega arith)), or-false)
-        go false e y f = rw (other-set i b (λ q. eqb-false ins i e (omega arith)), or-false)
-
--- the flags after a majority
-flag-next : (flags ins i : ℕ) (maj : Bool) → hasBit (cond maj (insertBit flags ins) flags) i ≡ (hasBit flags i || (eqb ins i && maj))
-flag-next flags ins i true = go (eqb ins i) refl
-  where
-    go : (t : Bool) → eqb ins i ≡ t → hasBit (insertBit flags ins) i ≡ (hasBit flags i || (t && true))
-    go true e = ap (hasBit (insertBit flags ins)) (sym (eqb-true ins i e)) ∙ hasBit-insert ins flags ∙ sym (or-true (hasBit flags i))
-    go false e = hasBit-other ins i flags (λ q. eqb-false ins i e (sym q)) ∙ sym (or-false (hasBit flags i))
-flag-next flags ins i false = sym (rw and-false (or-false (hasBit flags i)))
-
--- `c`, that the next message is a chosen one, in terms of `m`, that its set has become a majority
-settle : (d f c m r : Bool) → d ≡ (f || (c || r)) → (m ≡ true → c ≡ true) → (c ≡ true → m ≡ false → r ≡ true) → d ≡ ((f || m) || r)
-settle d f true true r e g h = e ∙ sym (or-assoc f true r)
-settle d f true false r e g h = e ∙ ap₂ _||_ (sym (or-false f)) (sym (h refl refl))
-settle d f false true r e g h = absurd (false≢true (g refl))
-settle d f false false r e g h = e ∙ ap (λ (t : Bool). t || r) (sym (or-false f))
-
--- one 2b of the value further
-module _ (p : Plan) (v : ℕ) (ms : List Message) (plan : isPlan p ≡ true) (s : Tally) (ins acc bal val : ℕ) (rest : List Message)
-    (inv : Counts p v ms s (Phase2b ins acc bal val ∷ rest)) (value : eqb val v ≡ true) (h : ins < p .rms) (k : bal < 256) where
-  few : ins < 16
-  few = omega (arith, plan-bounds p plan .rms-most)
-
-  voted-next : (i b a : ℕ) → i < p .rms → b < 256 → a < 8
-      → any (is2b i b v a) ms ≡ (hasBit (getD (tallied p s ins acc bal .masks) (256 * i + b) 0) a || any (is2b i b v a) rest)
-  unfolding any
-  voted-next i b a l small low =
-      or-next _ (hasBit (getD (s .masks) (256 * i + b) 0) a) (is2b i b v a (Phase2b ins acc bal val)) (any (is2b i b v a) rest)
-      (inv .voted i b a l small low) _ (bit-next p s ins acc bal (inv .size) few k i b a small low v val value)
-
-  -- at the message's own instance and ballot
-  joined-next : (a : ℕ) → a < p .acceptors → any (is2b ins bal v a) ms ≡ (hasBit (joined s ins acc bal) a || any (is2b ins bal v a) rest)
-  joined-next a l =
-      voted-next ins bal a h k (omega (arith, plan-bounds p plan .acceptors-most))
-      ∙ ap (λ (mask : ℕ). hasBit mask a || any (is2b ins bal v a) rest) (same-set p s ins acc bal (inv .size) few k)
-
-  isMajor : Bool
-  isMajor = isMajority (p .acceptors) (ones (p .acceptors) (joined s ins acc bal))
-
-  major-chosen : isMajor ≡ true → chosen p ms ins bal v ≡ true
-  unfolding isMajor chosen
-  major-chosen e = go (isQuorum (p .acceptors) (λ a. any (is2b ins bal v a) ms)) refl
+  bit-next : (b a : ℕ) → a < 8
+      → hasBit (getD (tallied p masks acc bal .masks) b 0) a ≡ (hasBit (getD masks b 0) a || is2b i b v a (Phase2b ins acc bal val))
+  unfolding is2b
+  bit-next b a low = rw (instance, value) (go (eqb bal b) refl)
     where
-      go : (t : Bool) → isQuorum (p .acceptors) (λ a. any (is2b ins bal v a) ms) ≡ t → t ≡ true
+      go : (t : Bool) → eqb bal b ≡ t → hasBit (getD (tallied p masks acc bal .masks) b 0) a ≡ (hasBit (getD masks b 0) a || (t && eqb acc a))
+      go true e = rw (← eqb-true bal b e, same-set) (joined-bit a low)
+      go false e = rw (other-set b (λ q. eqb-false bal b e (sym q)), or-false)
+
+  voted-next : (b a : ℕ) → b < 256 → a < 8
+      → any (is2b i b v a) ms ≡ (hasBit (getD (tallied p masks acc bal .masks) b 0) a || any (is2b i b v a) rest)
+  unfolding any
+  voted-next b a small low =
+      or-next _ (hasBit (getD masks b 0) a) (is2b i b v a (Phase2b ins acc bal val)) (any (is2b i b v a) rest)
+      (inv .voted b a small low) _ (bit-next b a low)
+
+  -- at the message's own ballot
+  joined-next : (a : ℕ) → a < p .acceptors → any (is2b i bal v a) ms ≡ (hasBit (joined masks acc bal) a || any (is2b i bal v a) rest)
+  joined-next a l =
+      voted-next bal a h (omega (arith, plan-bounds p plan .acceptors-most))
+      ∙ ap (λ (mask : ℕ). hasBit mask a || any (is2b i bal v a) rest) same-set
+
+  major-chosen : tallied p masks acc bal .major ≡ true → chosen p ms i bal v ≡ true
+  unfolding tallied chosen
+  major-chosen e = go (isQuorum (p .acceptors) (λ a. any (is2b i bal v a) ms)) refl
+    where
+      go : (t : Bool) → isQuorum (p .acceptors) (λ a. any (is2b i bal v a) ms) ≡ t → t ≡ true
       go true q = refl
       go false q =
-          let w = quorum-apart (p .acceptors) (hasBit (joined s ins acc bal)) _ (sym (mask-quorum _ _) ∙ e) q in
-          sym (w .3) ∙ joined-next (w .0) (w .1) ∙ ap (λ (t : Bool). t || any (is2b ins bal v (w .0)) rest) (w .2)
+          let w = quorum-apart (p .acceptors) (hasBit (joined masks acc bal)) _ (sym (mask-quorum _ _) ∙ e) q in
+          sym (w .3) ∙ joined-next (w .0) (w .1) ∙ ap (λ (t : Bool). t || any (is2b i bal v (w .0)) rest) (w .2)
 
-  minor-ahead : chosen p ms ins bal v ≡ true → isMajor ≡ false → any (isChosen2b p ms ins v) rest ≡ true
-  unfolding isMajor chosen
+  minor-ahead : chosen p ms i bal v ≡ true → tallied p masks acc bal .major ≡ false → any (isChosen2b p ms i v) rest ≡ true
+  unfolding tallied chosen
   minor-ahead c e =
-      let w = quorum-apart (p .acceptors) (λ a. any (is2b ins bal v a) ms) (hasBit (joined s ins acc bal)) c (sym (mask-quorum _ _) ∙ e) in
-      any-chosen p ms ins bal v (w .0) c rest
-      (sym (sym (w .2) ∙ joined-next (w .0) (w .1) ∙ ap (λ (t : Bool). t || any (is2b ins bal v (w .0)) rest) (w .3)))
+      let w = quorum-apart (p .acceptors) (λ a. any (is2b i bal v a) ms) (hasBit (joined masks acc bal)) c (sym (mask-quorum _ _) ∙ e) in
+      any-chosen p ms i bal v (w .0) c rest
+      (sym (sym (w .2) ∙ joined-next (w .0) (w .1) ∙ ap (λ (t : Bool). t || any (is2b i bal v (w .0)) rest) (w .3)))
 
-  decides-next : (i : ℕ) → i < p .rms → decided p ms i v ≡ (hasBit (tallied p s ins acc bal .flags) i || any (isChosen2b p ms i v) rest)
-  unfolding tallied any isChosen2b isMajor
-  decides-next i l =
-      settle _ (hasBit (s .flags) i) (eqb ins i && (eqb val v && chosen p ms i bal v)) (eqb ins i && isMajor)
-      (any (isChosen2b p ms i v) rest) (inv .decides i l) chosen-if ahead-if
-      ∙ ap (λ (t : Bool). t || any (isChosen2b p ms i v) rest) (sym (flag-next (s .flags) ins i isMajor))
-    where
-      chosen-if : (eqb ins i && isMajor) ≡ true → (eqb ins i && (eqb val v && chosen p ms i bal v)) ≡ true
-      chosen-if e = let x = both _ _ e in rw (x .0, value, ← eqb-true ins i (x .0)) (major-chosen (x .1))
+  -- the message is a chosen one where its ballot's 2b are a majority
+  decides-here : decided p ms i v ≡ (chosen p ms i bal v || any (isChosen2b p ms i v) rest)
+  unfolding any isChosen2b
+  decides-here =
+      inv .decides
+      ∙ ap₂ (λ (s t : Bool). (s && (t && chosen p ms i bal v)) || any (isChosen2b p ms i v) rest) instance value
 
-      ahead-if : (eqb ins i && (eqb val v && chosen p ms i bal v)) ≡ true → (eqb ins i && isMajor) ≡ false → any (isChosen2b p ms i v) rest ≡ true
-      ahead-if e f =
-          let x = both (eqb ins i) _ e in
-          let y = both (eqb val v) _ (x .1) in
-          let q = eqb-true ins i (x .0) in
-          rw (← q) (minor-ahead (rw (← q) at (y .1)) (sym (ap (λ (t : Bool). t && isMajor) (x .0)) ∙ f))
+  major-decides : tallied p masks acc bal .major ≡ true → decided p ms i v ≡ true
+  major-decides e = decides-here ∙ ap (λ (t : Bool). t || any (isChosen2b p ms i v) rest) (major-chosen e)
 
-  low-next : (major : Bool) → cond major (insertBit (s .flags) ins) (s .flags) < 2 ^ p .rms
-  low-next true = insert-bound ins (p .rms) (s .flags) h (inv .low)
-  low-next false = inv .low
-
-  tallied-next : Counts p v ms (tallied p s ins acc bal) rest
+  minor-next : tallied p masks acc bal .major ≡ false → Counts p i v ms (tallied p masks acc bal .masks) rest
   unfolding tallied
-  tallied-next =
+  minor-next e =
       record {
         size = simp length-set (inv .size);
-        low = low-next (isMajority (p .acceptors) (ones (p .acceptors) (joined s ins acc bal)));
         voted = voted-next;
-        decides = decides-next;
-      }
-
--- a message that is none, or of no instance of the plan
-module _ (p : Plan) (v : ℕ) (ms : List Message) (s : Tally) (m : Message) (rest : List Message) (inv : Counts p v ms s (m ∷ rest)) where
-  skip-next : ((i b a : ℕ) → i < p .rms → is2b i b v a m ≡ false) → ((i : ℕ) → i < p .rms → isChosen2b p ms i v m ≡ false) → Counts p v ms s rest
-  unfolding any
-  skip-next f g =
-      record {
-        size = inv .size;
-        low = inv .low;
-        voted = λ i b a l small low. inv .voted i b a l small low
-            ∙ ap (λ (t : Bool). hasBit (getD (s .masks) (256 * i + b) 0) a || (t || any (is2b i b v a) rest)) (f i b a l);
-        decides = λ i l. inv .decides i l ∙ ap (λ (t : Bool). hasBit (s .flags) i || (t || any (isChosen2b p ms i v) rest)) (g i l);
-      }
-
-module _ (p : Plan) (v : ℕ) (ms : List Message) where
-  pub counts-start : isPlan p ≡ true → Counts p v ms noVotes ms
-  unfolding decided
-  counts-start plan =
-      record {
-        size = length-replicate {A = ℕ} 4096 0;
-        low = pow-pos (p .rms);
-        voted = λ i b a l small low.
-            sym (ap (λ (t : Bool). t || any (is2b i b v a) ms) (ap (λ (mask : ℕ). hasBit mask a) (empty i b l small) ∙ hasBit-zero a));
-        decides = λ i l. sym (ap (λ (t : Bool). t || any (isChosen2b p ms i v) ms) (hasBit-zero i));
+        decides = decides-here ∙ go (chosen p ms i bal v) refl;
       }
     where
-      empty : (i b : ℕ) → i < p .rms → b < 256 → _≡_ {A = ℕ} (getD (replicate 4096 0) (256 * i + b) 0) 0
-      empty i b l small = getD-replicate {A = ℕ} 4096 (256 * i + b) 0 0 (omega (arith, plan-bounds p plan .rms-most))
+      go : (t : Bool) → chosen p ms i bal v ≡ t → (t || any (isChosen2b p ms i v) rest) ≡ any (isChosen2b p ms i v) rest
+      go true c = sym (minor-ahead c e)
+      go false c = refl
 
-  module _ (plan : isPlan p ≡ true) (s : Tally) (rest : List Message) where
-    step-next : (m : Message) → Counts p v ms s (m ∷ rest) → smallBallot m ≡ true → Counts p v ms (voteStep p v s m) rest
-    unfolding voteStep smallBallot is2b isChosen2b
-    step-next (Phase1a ins bal) inv k = skip-next p v ms s (Phase1a ins bal) rest inv (λ i b a l. refl) (λ i l. refl)
-    step-next (Phase1b ins acc mbal vote) inv k = skip-next p v ms s (Phase1b ins acc mbal vote) rest inv (λ i b a l. refl) (λ i l. refl)
-    step-next (Phase2a ins bal val) inv k = skip-next p v ms s (Phase2a ins bal val) rest inv (λ i b a l. refl) (λ i l. refl)
-    step-next (Phase2b ins acc bal val) inv k = go (eqb val v) refl (ltb ins (p .rms)) refl
-      where
-        go : (t : Bool) → eqb val v ≡ t → (u : Bool) → ltb ins (p .rms) ≡ u → Counts p v ms (cond (t && u) (tallied p s ins acc bal) s) rest
-        go true e true f = tallied-next p v ms plan s ins acc bal val rest inv e (ltb-true _ _ f) (ltb-true _ _ k)
-        go true e false f =
-            let g : p .rms ≤ ins = ltb-false _ _ f in
-            skip-next p v ms s (Phase2b ins acc bal val) rest inv (λ i b a l. rw (ne-eqb ins i (λ q. omega arith)))
-            (λ i l. rw (ne-eqb ins i (λ q. omega arith)))
-        go false e u f = skip-next p v ms s (Phase2b ins acc bal val) rest inv (λ i b a l. simp (e, and-false)) (λ i l. simp (e, and-false))
-    step-next (Decision val) inv k = skip-next p v ms s (Decision val) rest inv (λ i b a l. refl) (λ i l. refl)
+module _ (p : Plan) (i v : ℕ) (ms : List Message) where
+  pub counts-start : Counts p i v ms (replicate 256 0) ms
+  unfolding decided
+  counts-start =
+      record {
+        size = length-replicate {A = ℕ} 256 0;
+        voted = λ b a small low.
+            sym (ap (λ (t : Bool). t || any (is2b i b v a) ms)
+            (ap (λ (mask : ℕ). hasBit mask a) (getD-replicate {A = ℕ} 256 b 0 0 small) ∙ hasBit-zero a));
+        decides = refl;
+      }
 
-    pub counts-next : (here : List Message) → Counts p v ms s here → (m : Message) → here ≡ m ∷ rest → smallBallot m ≡ true
-        → (s′ : Tally) → s′ ≡ voteStep p v s m → Counts p v ms s′ rest
-    counts-next here inv m e k s′ f = rw f (step-next m (rw e at inv) k)
-
-  -- a flag that stands is right, whatever is ahead
-  pub counts-early : (s : Tally) (here : List Message) → Counts p v ms s here
-      → (i : ℕ) → i < p .rms → hasBit (s .flags) i ≡ true → decided p ms i v ≡ true
-  counts-early s here inv i l e = inv .decides i l ∙ ap (λ (t : Bool). t || any (isChosen2b p ms i v) here) e
-
-  pub counts-end : (s : Tally) (here : List Message) → Counts p v ms s here → here ≡ []
-      → (i : ℕ) → i < p .rms → hasBit (s .flags) i ≡ decided p ms i v
+  pub counts-end : (masks : List ℕ) (here : List Message) → Counts p i v ms masks here → here ≡ [] → decided p ms i v ≡ false
   unfolding any
-  counts-end s here inv e i l = let inv′ : Counts p v ms s [] = rw e at inv in sym (inv′ .decides i l ∙ or-false _)
+  counts-end masks here inv e = inv .decides ∙ ap (any (isChosen2b p ms i v)) e
+
+  module _ (masks : List ℕ) (rest : List Message) where
+    -- a message that is none
+    skip-next : (m : Message) → Counts p i v ms masks (m ∷ rest) → ((b a : ℕ) → is2b i b v a m ≡ false) → isChosen2b p ms i v m ≡ false
+        → Counts p i v ms masks rest
+    unfolding any
+    skip-next m inv f g =
+        record {
+          size = inv .size;
+          voted = λ b a small low. inv .voted b a small low
+              ∙ ap (λ (t : Bool). hasBit (getD masks b 0) a || (t || any (is2b i b v a) rest)) (f b a);
+          decides = inv .decides ∙ ap (λ (t : Bool). t || any (isChosen2b p ms i v) rest) g;
+        }
+
+    module _ (plan : isPlan p ≡ true) where
+      minor-step : (m : Message) → Counts p i v ms masks (m ∷ rest) → smallBallot m ≡ true → voteStep p i v masks m .major ≡ false
+          → Counts p i v ms (voteStep p i v masks m .masks) rest
+      unfolding voteStep smallBallot is2b isChosen2b
+      minor-step (Phase1a ins bal) inv k n = skip-next (Phase1a ins bal) inv (λ b a. refl) refl
+      minor-step (Phase1b ins acc mbal vote) inv k n = skip-next (Phase1b ins acc mbal vote) inv (λ b a. refl) refl
+      minor-step (Phase2a ins bal val) inv k n = skip-next (Phase2a ins bal val) inv (λ b a. refl) refl
+      minor-step (Phase2b ins acc bal val) inv k n = go (eqb ins i) refl (eqb val v) refl n
+        where
+          go : (t : Bool) → eqb ins i ≡ t → (u : Bool) → eqb val v ≡ u → cond (t && u) (tallied p masks acc bal) (tally masks false) .major ≡ false
+              → Counts p i v ms (cond (t && u) (tallied p masks acc bal) (tally masks false) .masks) rest
+          go true e true f n = minor-next p plan i v ms masks ins acc bal val rest inv e f (ltb-true _ _ k) n
+          go true e false f n = skip-next (Phase2b ins acc bal val) inv (λ b a. simp (f, and-false)) (simp (f, and-false))
+          go false e u f n = skip-next (Phase2b ins acc bal val) inv (λ b a. rw e) (rw e)
+      minor-step (Decision val) inv k n = skip-next (Decision val) inv (λ b a. refl) refl
+
+      major-step : (m : Message) → Counts p i v ms masks (m ∷ rest) → smallBallot m ≡ true → voteStep p i v masks m .major ≡ true
+          → decided p ms i v ≡ true
+      unfolding voteStep smallBallot
+      major-step (Phase1a ins bal) inv k y = absurd (false≢true y)
+      major-step (Phase1b ins acc mbal vote) inv k y = absurd (false≢true y)
+      major-step (Phase2a ins bal val) inv k y = absurd (false≢true y)
+      major-step (Phase2b ins acc bal val) inv k y = go (eqb ins i) refl (eqb val v) refl y
+        where
+          go : (t : Bool) → eqb ins i ≡ t → (u : Bool) → eqb val v ≡ u → cond (t && u) (tallied p masks acc bal) (tally masks false) .major ≡ true
+              → decided p ms i v ≡ true
+          go true e true f y = major-decides p plan i v ms masks ins acc bal val rest inv e f (ltb-true _ _ k) y
+          go true e false f y = absurd (false≢true y)
+          go false e u f y = absurd (false≢true y)
+      major-step (Decision val) inv k y = absurd (false≢true y)
+
+      -- `s` is what the next message makes of the sets
+      module _ (here : List Message) (inv : Counts p i v ms masks here) (m : Message) (of-here : here ≡ m ∷ rest) (small : smallBallot m ≡ true)
+          (s : Tally) (of-s : s ≡ voteStep p i v masks m) where
+        pub counts-next : s .major ≡ false → Counts p i v ms (s .masks) rest
+        counts-next n = rw of-s (minor-step m (rw of-here at inv) small (rw of-s at n))
+
+        pub counts-major : s .major ≡ true → decided p ms i v ≡ true
+        counts-major y = major-step m (rw of-here at inv) small (rw of-s at y)

@@ -9,7 +9,7 @@ use Rattle.leader.proofs.evaluate_kind.Statement.{statement}
 use Rattle.leader.proofs.evaluate_kind.Tie as tie
 
 abbrev start : tie.Else1 → tie.Start
-start c = c .before .before .before .before
+start c = c .before .before .before .before .before
 
 -- after the three bytes of the event: the first test, that the plan is in range, and what the bytes are
 abbrev else₁ : tie.After-byte-at3 → tie.Else1
@@ -67,8 +67,8 @@ returns-3 c =
     kind-phase2a _ _ _ _ _ _ _ (else₁ at-bytes .if1 .left) _ (who at-bytes) _ (high at-bytes) _ (low at-bytes) (plan at-bytes) (at-if2 .if2 .left)
     (at-if3 .if3 .taken) (c .propose .ensures)
 
-is-decided-all-requires : tie.Need-is-decided-all-requires
-is-decided-all-requires c κs = tt
+all-prepared-requires : tie.Need-all-prepared-requires
+all-prepared-requires c κs = tt
 
 decide-send-requires : tie.Need-decide-send-requires
 decide-send-requires c κs = tt
@@ -80,11 +80,11 @@ returns-4 c =
     let at-if3 = at-if4 .before in
     let at-if2 = at-if3 .before in
     let at-bytes = at-if2 .before in
-    kind-commit _ _ _ _ _ _ _ (else₁ at-bytes .if1 .left) (plan at-bytes) (at-if2 .if2 .left) (at-if3 .if3 .left) _ (at-if4 .if4 .taken)
-    (at-decided .is-decided-all .ensures) (c .decide-send .ensures)
+    kind-commit _ _ _ _ _ _ _ (else₁ at-bytes .if1 .left) (at-if2 .if2 .left) (at-if3 .if3 .left) _ (at-if4 .if4 .taken)
+    (at-decided .all-prepared .ensures) (c .decide-send .ensures)
 
-is-decided-some-requires : tie.Need-is-decided-some-requires
-is-decided-some-requires c κs = tt
+some-aborted-requires : tie.Need-some-aborted-requires
+some-aborted-requires c κs = tt
 
 decide-send-requires-2 : tie.Need-decide-send-requires-2
 decide-send-requires-2 c κs = tt
@@ -96,8 +96,8 @@ returns-5 c =
     let at-if3 = at-if4 .before in
     let at-if2 = at-if3 .before in
     let at-bytes = at-if2 .before in
-    kind-abort _ _ _ _ _ _ _ (else₁ at-bytes .if1 .left) (plan at-bytes) (at-if2 .if2 .left) (at-if3 .if3 .left) _ (at-if4 .if4 .left)
-    (at-decided .is-decided-some .ensures) (c .decide-send2 .ensures)
+    kind-abort _ _ _ _ _ _ _ (else₁ at-bytes .if1 .left) (at-if2 .if2 .left) (at-if3 .if3 .left) _ (at-if4 .if4 .left)
+    (at-decided .some-aborted .ensures) (c .decide-send2 .ensures)
 
 pub evaluate-kind-spec : {M : Type 1} → statement M
 evaluate-kind-spec =
@@ -106,5 +106,5 @@ evaluate-kind-spec =
     slot-number-requires receive-requires returns
     byte-at-requires byte-at-requires-2 byte-at-requires-3
     phase1a-of-requires returns-2 propose-requires returns-3
-    is-decided-all-requires decide-send-requires returns-4
-    is-decided-some-requires decide-send-requires-2 returns-5)
+    all-prepared-requires decide-send-requires returns-4
+    some-aborted-requires decide-send-requires-2 returns-5)

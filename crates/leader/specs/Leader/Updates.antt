@@ -1,4 +1,4 @@
--- What a leader's step changes beside N is its inbox alone.
+-- What an event of a leader comes to changes, beside N, its inbox alone; the summary is marked after it.
 --     leader-changes     what an event comes to changes the inbox
 -- Assumes nothing.
 use Prim.Native.Nat.{ℕ}

@@ -1,5 +1,5 @@
 -- What an accepted step of a leader sets, by kind.
---     receipt-acts          kind 4: the message is stored in the inbox
+--     receipt-slot, receipt-acts     kind 4: the slot holds a message, and it is stored in the inbox
 --     phase1a-acts, phase2a-acts, commit-acts, abort-acts     kinds 5 to 8: the published action, the sent message, the inbox
 --     proposal-first, proposal-none     the 2a that is proposed
 --     owner-one, owner-none             the owner of a ballot
@@ -83,6 +83,10 @@ module _ {p : Plan} {isDecided : ℕ → ℕ → Bool} {inbox network e : List �
         let (quiet, stores, kept, s)
         = store-acts p inbox network e rmState aState t m (in-range p _ m held (member-at _ _ m at)) (receipt-stores _ m _ taken) in
         (m, at, (quiet, kept, stores), s)
+
+    -- the slot is used
+    pub receipt-slot : (m : Wire.Message) × (messageAt (messages p network) (slotNumber e) ≡ accepted m)
+    receipt-slot = let (m, at, got, s) = receipt-some in (m, at)
 
     pub receipt-acts : (m : Wire.Message) → messageAt (messages p network) (slotNumber e) ≡ accepted m → Receives m
     receipt-acts m at = let (x, is, got, s) = receipt-some in subst Receives (accepted-inj (sym is ∙ at)) got

@@ -293,7 +293,7 @@ module _ (p : Plan) (isDecided : ℕ → ℕ → Bool) (Decided : ℕ → Val �
     abbrev Rows7 : Rows
     Rows7 = row 7 ((isEvent p e ≡ false) ⊎ (kindOf e < 4)) Rows8
 
-    verdict-ruled : isPlan p ≡ true → Ruled (leaderVerdictBy p isDecided (viewTable p inbox) (viewTable p network) e) Rows7
+    pub verdict-ruled : isPlan p ≡ true → Ruled (leaderVerdictBy p isDecided (viewTable p inbox) (viewTable p network) e) Rows7
     unfolding leaderVerdictBy
     verdict-ruled plan =
         ruled-pass _ 1 _ _ (ap not plan)

@@ -1,26 +1,24 @@
--- A chain of refusals answers the lowest number that applies, if the rows' numbers ascend.
+-- A chain of refusals answers the first row that applies, which has the lowest number if the rows' numbers ascend.
 --     isAscending          the numbers ascend, from `least` on
 --     Ruled                the chain answers the first row that applies; ruled-row, -guard, -both, -pass, -skip and -end give it row by row
 --     lowest-of-ruled      so it answers the lowest number
+--     in-order-of-ruled    it answers by the rows in their order, whatever their numbers
+--     lowest-in-order      which is the lowest number where they ascend
+--     applies-of-first     the first row that applies does
 -- Assumes nothing.
 use Prim.Native.Nat.{ℕ, suc, _≤_, _<_}
 use mathlib.Core.Bool.{Bool, true, false, _&&_}
-use mathlib.Core.Path.{_≡_, refl, sym}
+use mathlib.Core.Path.{_≡_, refl, sym, _∙_, ap}
 use native.Mathlib.Omega.{arith}
 use lib.Dec.{leb}
 use borrow.Author.Tests.{leb-true}
 use Rattle.message.specs.Outcome.{Outcome, accepted, refused, refuseIf}
 use Rattle.message.specs.Outcome.Laws.{both, accepted-not-refused}
-use Rattle.message.specs.Rows.{Rows, end, guard, row, Either, here, below, Applies, Lowest}
+use Rattle.message.specs.Rows.{Rows, end, guard, row, here, below, Applies, First, InOrder, Lowest}
 
 unfoldable pub isAscending : ℕ → Rows → Bool
 isAscending least end = true
 isAscending least (guard number applies rest) = leb least number && isAscending (suc number) rest
-
--- the first row that applies
-abbrev pub First : Rows → ℕ → Type 1
-First end k = Unit {1} → ⊥
-First (guard number applies rest) k = Either ((k ≡ number) × applies) ((applies → ⊥) × First rest k)
 
 abbrev pub NoneOf : Rows → Type 1
 NoneOf end = Unit {1}
@@ -74,7 +72,7 @@ applies-least least (guard n t rest) up k (here h) = let b = both (leb least n) 
 applies-least least (guard n t rest) up k (below h) =
     let b = both (leb least n) (isAscending (suc n) rest) up in let l = leb-true least n (b .0) in let m = applies-least (suc n) rest (b .1) k h in omega arith
 
-applies-of-first : (rows : Rows) (k : ℕ) → First rows k → Applies rows k
+pub applies-of-first : (rows : Rows) (k : ℕ) → First rows k → Applies rows k
 applies-of-first end k h = h
 applies-of-first (guard n t rest) k (here h) = here h
 applies-of-first (guard n t rest) k (below h) = below (applies-of-first rest k (h .1))
@@ -118,3 +116,36 @@ lowest-of-ruled {A} rows up (refused n) r =
         let m = first-lowest 0 rows up n r k (h .0) in
         let l : n < k → ⊥ = λ s. h .1 n s (applies-of-first rows n r) in
         let e : n ≡ k = omega arith in rw e
+
+-- no two rows are the first
+first-one : (rows : Rows) (k j : ℕ) → First rows k → First rows j → k ≡ j
+first-one end k j f g = absurd (f tt)
+first-one (guard n t rest) k j (here f) (here g) = f .0 ∙ sym (g .0)
+first-one (guard n t rest) k j (here f) (below g) = absurd (g .0 (f .1))
+first-one (guard n t rest) k j (below f) (here g) = absurd (f .0 (g .1))
+first-one (guard n t rest) k j (below f) (below g) = first-one rest k j (f .1) (g .1)
+
+pub in-order-of-ruled : {A : Type 0} (rows : Rows) (answer : Outcome A) → Ruled answer rows → InOrder rows answer
+unfolding Ruled
+in-order-of-ruled rows (accepted a) r =
+    record {
+      refuses = λ k. (λ e. absurd (accepted-not-refused (sym e)), λ h. absurd (none-applies rows r k (applies-of-first rows k h)));
+      accepts = (λ h. none-applies rows r, λ h. (a, refl));
+    }
+in-order-of-ruled {A} rows (refused n) r =
+    record {
+      refuses = λ k. (λ e. let same : n ≡ k = cc in rw (← same) r, λ h. ap refused (first-one rows n k r h));
+      accepts = (λ h. absurd (accepted-not-refused (h .1)), λ h. absurd (h n (applies-of-first rows n r)));
+    }
+
+none-of : (rows : Rows) → ((k : ℕ) → Applies rows k → ⊥) → NoneOf rows
+none-of end n = tt
+none-of (guard m t rest) n = (λ h. n m (here (refl, h)), none-of rest (λ k h. n k (below h)))
+
+pub lowest-in-order : {A : Type 0} (rows : Rows) → isAscending 0 rows ≡ true → (answer : Outcome A) → InOrder rows answer → Lowest rows answer
+unfolding Ruled
+lowest-in-order {A} rows up answer o = lowest-of-ruled rows up answer (go answer o)
+  where
+    go : (answer : Outcome A) → InOrder rows answer → Ruled answer rows
+    go (accepted a) o = none-of rows (o .accepts .0 (a, refl))
+    go (refused k) o = o .refuses k .0 refl

@@ -17,6 +17,9 @@ large-buffer-requires c κs = tt
 large-buffer-requires-2 : tie.Need-large-buffer-requires-2
 large-buffer-requires-2 c κs = tt
 
+buffer-requires-3 : tie.Need-buffer-requires-3
+buffer-requires-3 c κs = tt
+
 cast-states-end : tie.Need-cast-states-end
 cast-states-end c = search needs
 
@@ -40,6 +43,12 @@ mul-least-2 c = search needs
 
 least-requires-2 : tie.Need-least-requires-2
 least-requires-2 c κs = tt
+
+summary-length-requires : tie.Need-summary-length-requires
+summary-length-requires c κs = tt
+
+least-requires-3 : tie.Need-least-requires-3
+least-requires-3 c κs = tt
 
 array-borrow-prefix-states : tie.Need-array-borrow-prefix-states
 array-borrow-prefix-states c = search needs
@@ -65,6 +74,12 @@ array-borrow-prefix-inboxes c = search needs
 slice-aggregate-inboxes-part : tie.Need-slice-aggregate-inboxes-part
 slice-aggregate-inboxes-part c = simp length-take (omega arith)
 
+array-borrow-prefix-summary : tie.Need-array-borrow-prefix-summary
+array-borrow-prefix-summary c = search needs
+
+slice-aggregate-summary-part : tie.Need-slice-aggregate-summary-part
+slice-aggregate-summary-part c = simp length-take (omega arith)
+
 open-requires : tie.Need-open-requires
 open-requires c κs = tt
 
@@ -88,6 +103,7 @@ tell-spec =
     buffer-requires-2
     large-buffer-requires
     large-buffer-requires-2
+    buffer-requires-3
     cast-states-end
     votes-length-requires
     least-requires
@@ -96,6 +112,8 @@ tell-spec =
     cast-least
     mul-least-2
     least-requires-2
+    summary-length-requires
+    least-requires-3
     array-borrow-prefix-states
     slice-aggregate-states-part
     array-borrow-prefix-votes
@@ -104,6 +122,8 @@ tell-spec =
     slice-aggregate-network-part
     array-borrow-prefix-inboxes
     slice-aggregate-inboxes-part
+    array-borrow-prefix-summary
+    slice-aggregate-summary-part
     open-requires
     tell-events-requires
     say-ending-requires

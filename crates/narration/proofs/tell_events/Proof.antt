@@ -2,20 +2,21 @@
 use Prim.Native.Nat.{_≤_, _-_}
 use borrow.Author.Needs.{needs}
 use lib.ListN.{length}
-use mathlib.Core.Path.{_≡_}
+use mathlib.Core.Path.{_≡_, _∙_}
 use Rattle.narration.proofs.tell_events.Statement.{statement}
 use Rattle.narration.proofs.tell_events.Tie as tie
 
 abbrev Inv-loop : tie.InvT-loop
-Inv-loop plan states₀ votes₀ network₀ inboxes₀ events count written₀ made₀ states votes network inboxes written made =
+Inv-loop plan states₀ votes₀ network₀ inboxes₀ summary₀ events count written₀ made₀ states votes network inboxes summary written made =
     (made ≤ count)
     × (length states ≡ length states₀)
     × (length votes ≡ length votes₀)
     × (length network ≡ length network₀)
     × (length inboxes ≡ length inboxes₀)
+    × (length summary ≡ length summary₀)
 
 abbrev μ-loop : tie.MeasureT-loop
-μ-loop plan states₀ votes₀ network₀ inboxes₀ events count written₀ made₀ states votes network inboxes written made = count - made
+μ-loop plan states₀ votes₀ network₀ inboxes₀ summary₀ events count written₀ made₀ states votes network inboxes summary written made = count - made
 
 event-count-requires : tie.Need-event-count-requires Inv-loop μ-loop
 event-count-requires c κs = tt
@@ -45,7 +46,11 @@ loop-less : tie.Need-loop-less Inv-loop μ-loop
 loop-less c = search needs
 
 loop-again : tie.Need-loop-again Inv-loop μ-loop
-loop-again c = search needs
+loop-again c =
+    let at-step = c .before .before .before .before .before .before .before .before .before .before .before .before .before .before in
+    let kept = at-step .step .kept in
+    let inv = at-step .before .before .before .before .before .before .before .before .before .before .loop .inv in
+    (search needs, kept .1 .0 ∙ inv .1, kept .1 .1 .0 ∙ inv .2, kept .1 .1 .1 .0 ∙ inv .3, kept .1 .1 .1 .1 .0 ∙ inv .4, kept .1 .1 .1 .1 .1 .0 ∙ inv .5)
 
 same-length : tie.Need-same-length Inv-loop μ-loop
 same-length c = search needs
@@ -58,6 +63,9 @@ same-length-3 c = search needs
 
 same-length-4 : tie.Need-same-length-4 Inv-loop μ-loop
 same-length-4 c = search needs
+
+same-length-5 : tie.Need-same-length-5 Inv-loop μ-loop
+same-length-5 c = search needs
 
 returns : tie.Need-returns Inv-loop μ-loop
 returns c = search needs
@@ -82,4 +90,5 @@ tell-events-spec =
     same-length-2
     same-length-3
     same-length-4
+    same-length-5
     returns)

@@ -1,12 +1,12 @@
--- `opening::judge_lengths` meets its contract: each `return` is one row of `openJudged`. Assumes nothing.
+-- `opening::judge_lengths` meets its contract: each `return` is one row of `lengthsJudged`. Assumes nothing.
 use mathlib.Core.Path.{refl}
 use Rattle.message.proofs.Guards.{told, passed, halt, pass}
-use Rattle.opening.specs.Opening.{openJudged}
+use Rattle.opening.specs.Opening.{lengthsJudged}
 use Rattle.opening.proofs.judge_lengths.Statement.{statement}
 use Rattle.opening.proofs.judge_lengths.Tie as tie
 
 pub judge-lengths-spec : {M : Type 1} → statement M
-unfolding openJudged
+unfolding lengthsJudged
 judge-lengths-spec =
     tie.close
     (tie.spec

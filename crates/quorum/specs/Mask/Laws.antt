@@ -1,7 +1,6 @@
 -- The laws of sets of acceptors as bits.
 --     hasBit-zero                       the empty set
 --     hasBit-insert, hasBit-other       the bit that was set, and any other
---     insert-bound                      a number below 2 ^ n stays there
 --     join-bit                          so after a joining the members are those before, and the acceptor that joined
 --     ones-count, mask-quorum           the ones are the bits that stand, so a mask's majority is the quorum of its members
 --     bit-value, bit-value-32, or-insert    a bit's value in a byte and in 32 bits, and setting the bit by it
@@ -10,7 +9,7 @@
 use Prim.Native.Nat.{ℕ, zero, suc, _+_, _*_, _/_, _%_, _^_, _≤_, _<_, max}
 use mathlib.Core.Bool.{Bool, true, false, _||_, cond, or-true, or-false}
 use mathlib.Core.Path.{_≡_, refl, sym, _∙_, ap, ap₂}
-use native.Mathlib.Nat.{add-comm, one-mul, max-zero, max-eq-right, mod-lt, mod-eq-of-lt, pow-suc, lt-of-lt-of-le, le-of-suc-le-suc, not-suc-le-zero}
+use native.Mathlib.Nat.{add-comm, one-mul, max-zero, max-eq-right, mod-lt, mod-eq-of-lt, pow-suc, lt-of-lt-of-le}
 use native.Mathlib.Numerals.{add-one}
 use native.Mathlib.Omega.{arith}
 use lib.Bits.{bitOr, or-step, or-zero-r}
@@ -49,15 +48,6 @@ hasBit-other zero zero mask n = absurd (n refl)
 hasBit-other zero (suc b) mask n = rw (odd-half mask)
 hasBit-other (suc a) zero mask n = rw (even-rest mask (insertBit (mask / 2) a))
 hasBit-other (suc a) (suc b) mask n = rw (even-half mask (insertBit (mask / 2) a)) (hasBit-other a b (mask / 2) (λ e. n (ap suc e)))
-
-pub insert-bound : (a n mask : ℕ) → a < n → mask < 2 ^ n → insertBit mask a < 2 ^ n
-unfolding insertBit
-insert-bound a zero mask h k = absurd (not-suc-le-zero h)
-insert-bound zero (suc n) mask h k = rw pow-suc (let l : mask < 2 ^ n * 2 = rw pow-suc at k in omega arith)
-insert-bound (suc a) (suc n) mask h k =
-    let l : mask < 2 ^ n * 2 = rw pow-suc at k in
-    let m : insertBit (mask / 2) a < 2 ^ n = insert-bound a n (mask / 2) (le-of-suc-le-suc h) (omega arith) in
-    rw pow-suc (omega arith)
 
 pub join-bit : (mask acc a : ℕ) → a < 8 → hasBit (join mask acc) a ≡ (hasBit mask a || eqb acc a)
 join-bit mask acc a h = go (ltb acc 8) refl (eqb acc a) refl

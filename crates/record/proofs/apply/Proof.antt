@@ -5,10 +5,10 @@ use Rattle.record.proofs.apply.Statement.{statement}
 use Rattle.record.proofs.apply.Tie as tie
 
 returns : tie.Need-returns
-returns c = apply-refused _ _ _ _ _ _ (c .before .enum-told .given .1) (c .verdict-number .ensures)
+returns c s = apply-refused _ _ _ _ _ _ (c .before .enum-told .given .1) (c .verdict-number .ensures)
 
 returns-2 : tie.Need-returns-2
-returns-2 c =
+returns-2 c s =
     let sent = c .before .before in
     let stored = sent .before .before .before .before .before .before .before .before in
     apply-accepted _ _ _ _ _ (stored .before .before .before .before .before .verdict .given .1) _ _ _ _ (stored .update-table .ensures) (sent .apply-store .ensures)

@@ -2,7 +2,7 @@
 --     length-inboxOf                            leader l's inbox has the size of a part
 --     length-withInbox, inboxSize-withInbox     with other bytes in one inbox, as many as there were, I keeps its length
 --     inboxOf-with, inboxOf-with-other          that inbox is then what was put, and the others are as they were
---     with-inboxOf                              put back as it was it gives I
+--     with-own, with-inboxOf                    put back as it was it gives I, whatever l is
 --     zeros-inboxOf                             an inbox of zeros is zeros
 -- That leader l's inbox lies within I is `inbox-within` of the crate `opening`. Assumes nothing.
 use Prim.Native.Nat.{ℕ, _+_, _-_, _*_, _/_, _<_, _≤_}
@@ -59,6 +59,10 @@ module _ (xs box : List ℕ) (a s : ℕ) (fits : a + s ≤ length xs) where
 put-part : (xs : List ℕ) (a s : ℕ) → take a xs ++ (take s (drop a xs) ++ drop (a + s) xs) ≡ xs
 put-part xs a s = rw (← drop-drop s a xs, take-append-drop s (drop a xs)) (take-append-drop a xs)
 
+pub with-own : (p : Plan) (inboxes : List ℕ) (l : ℕ) → withInbox p inboxes l (inboxOf p inboxes l) ≡ inboxes
+unfolding inboxOf withInbox
+with-own p inboxes l = put-part inboxes (l * inboxSize p inboxes) (inboxSize p inboxes)
+
 abbrev zeros : ℕ → List ℕ
 zeros n = replicate n 0
 
@@ -84,8 +88,7 @@ module _ (p : Plan) (inboxes : List ℕ) (l : ℕ) (some : 0 < p .leaders) (h : 
   length-inboxOf = length-part inboxes inboxes (l * inboxSize p inboxes) (inboxSize p inboxes) within
 
   pub with-inboxOf : withInbox p inboxes l (inboxOf p inboxes l) ≡ inboxes
-  unfolding inboxOf withInbox
-  with-inboxOf = put-part inboxes (l * inboxSize p inboxes) (inboxSize p inboxes)
+  with-inboxOf = with-own p inboxes l
 
   module _ (box : List ℕ) (whole : length box ≡ inboxSize p inboxes) where
     pub length-withInbox : length (withInbox p inboxes l box) ≡ length inboxes

@@ -14,10 +14,10 @@ abbrev lined : tie.After-put-cut → tie.After-put-answers
 lined c = c .before .before .before .before .before .before
 
 abbrev ran : tie.After-put-answers → tie.After-run
-ran c = c .before .before .before .before .before .before .before .before .before .before .before .before .before
+ran c = c .before .before .before .before .before .before .before .before .before .before .before .before .before .before .before
 
 abbrev entered : tie.After-run → tie.Start
-entered c = c .before .before .before .before .before .before .before .before .before .before .before .before .before .before .before
+entered c = c .before .before .before .before .before .before .before .before .before .before .before .before .before .before .before .before .before
 
 mul-end : tie.Need-mul-end
 mul-end c = search needs
@@ -49,6 +49,9 @@ same-length-5 c = search needs
 same-length-6 : tie.Need-same-length-6
 same-length-6 c = search needs
 
+same-length-7 : tie.Need-same-length-7
+same-length-7 c = search needs
+
 returns : tie.Need-returns
 returns c =
     let at-word = c .before .before in
@@ -79,4 +82,5 @@ run-events-spec =
     same-length-4
     same-length-5
     same-length-6
+    same-length-7
     returns)

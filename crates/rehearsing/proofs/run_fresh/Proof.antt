@@ -15,6 +15,9 @@ network-table-requires c κs = search needs
 inboxes-table-requires : tie.Need-inboxes-table-requires
 inboxes-table-requires c κs = search needs
 
+summary-table-requires : tie.Need-summary-table-requires
+summary-table-requires c κs = search needs
+
 answers-table-requires : tie.Need-answers-table-requires
 answers-table-requires c κs = search needs
 
@@ -33,17 +36,27 @@ slice-aggregate-run-4 c = search needs
 slice-aggregate-run-5 : tie.Need-slice-aggregate-run-5
 slice-aggregate-run-5 c = search needs
 
+slice-aggregate-run-6 : tie.Need-slice-aggregate-run-6
+slice-aggregate-run-6 c = search needs
+
 run-requires : tie.Need-run-requires
 run-requires c κs =
-    let at-answers = c .before .before .before .before .before .before in
-    let at-inboxes = at-answers .before in
+    let at-answers = c .before .before .before .before .before .before .before in
+    let at-summary = at-answers .before in
+    let at-inboxes = at-summary .before in
     let at-network = at-inboxes .before in
     let at-votes = at-network .before in
     let at-states = at-votes .before in
     let at-start = at-states .before .before .before in (
       at-start .pre .0,
       (
-        (at-states .states-table .ensures, at-votes .votes-table .ensures, at-network .network-table .ensures, at-inboxes .inboxes-table .ensures),
+        (
+          at-states .states-table .ensures,
+          at-votes .votes-table .ensures,
+          at-network .network-table .ensures,
+          at-inboxes .inboxes-table .ensures,
+          at-summary .summary-table .ensures,
+        ),
         (at-start .pre .1, at-answers .answers-table .ensures),
       ),
     )
@@ -62,12 +75,14 @@ run-fresh-spec =
     votes-table-requires
     network-table-requires
     inboxes-table-requires
+    summary-table-requires
     answers-table-requires
     slice-aggregate-run
     slice-aggregate-run-2
     slice-aggregate-run-3
     slice-aggregate-run-4
     slice-aggregate-run-5
+    slice-aggregate-run-6
     run-requires
     same-length
     returns)

@@ -1,7 +1,7 @@
 -- Laws of the rehearsal's definitions.
 --     calls-end, calls-take              no bytes; bytes past the last event play no part
 --     opens, fresh-judged                opening on tables of the right lengths gives the fresh ones, and these are sound
---     number-below                       an event call's number is at most 14
+--     number-below                       an event call's number is at most 20
 --     text-next, text-end                the text of one call and the rest
 --     text-length, rehearsed-length      a text has at most three bytes for a call and ten for the word
 --     events-whole, text-whole           the text from the answers of the whole events' list
@@ -23,7 +23,7 @@ use Rattle.message.specs.Form.{mapLength}
 use Rattle.message.specs.Form.Laws.{mapLength-zero}
 use Rattle.message.specs.Plan.{isPlan}
 use Rattle.message.specs.Plan.Laws.{plan-bounds}
-use Rattle.message.specs.Rows.{Rows, end, guard, here, below, Applies, Lowest}
+use Rattle.message.specs.Rows.{Rows, end, guard, here, below, First, InOrder}
 use Rattle.slots.specs.All.{all}
 use Rattle.slots.specs.Table.{slotSize, isTableLength, isZero, isTable}
 use Rattle.slots.specs.Table.Laws.{isTable-first}
@@ -32,7 +32,9 @@ use Rattle.rm.specs.Rm.{areStates}
 use Rattle.votes.specs.Votes.{isVoteState, areVotes}
 use Rattle.inbox.specs.Inbox.Quantifiers.{all-forAll}
 use Rattle.ending.specs.Ending.{endingOf}
-use Rattle.record.specs.Record.{Tables, inboxSize, areLengths, inboxOf, areInboxes, recordJudged, openJudged, zeroed, recordOpen, recordStep}
+use Rattle.summary.specs.Summary.Laws.{zeros-sound}
+use Rattle.record.specs.Record.{Tables, inboxSize, areLengths, lengthsJudged, openJudged, zeroed, recordOpen}
+use Rattle.record.specs.Record.{inboxOf, areInboxes, recordJudged, lentJudged, recordStep}
 use Rattle.record.specs.Record.Parts.{zeros-inboxOf}
 use Rattle.conformance.specs.Record.{recordRows}
 use Rattle.conformance.specs.Theorems.{record-answers, record-sound}
@@ -77,9 +79,9 @@ module _ (p : Plan) (slots : ℕ) (plan : isPlan p ≡ true) (whole : isTableLen
       let parts = mul-mod-right (p .leaders) (slotSize * slots) in
       rw (eq-eqb _ _ w, eq-eqb _ _ q, n, whole, i, parts, size, whole)
 
-  pub opens : recordOpen p t ≡ record { answer = accepted tt; tables = freshTables slots p }
-  unfolding recordOpen openJudged refuseIf zeroed freshTables
-  opens = rw (plan, lengths-right, w, q, n, i)
+  pub opens : length (t .summary) ≡ p .rms * p .leaders → recordOpen p t ≡ record { answer = accepted tt; tables = freshTables slots p }
+  unfolding recordOpen openJudged lengthsJudged andThen refuseIf zeroed freshTables
+  opens s = rw (plan, lengths-right, eq-eqb _ _ s, w, q, n, i, s)
 
 -- zeros are sound
 zero-states : (n : ℕ) → areStates (replicate n 0) ≡ true
@@ -108,34 +110,42 @@ zero-table : (p : Plan) (n : ℕ) → isTable p (replicate n 0) ≡ true
 zero-table p n = isTable-first p (replicate n 0) (zero-first n) ∙ zero-part (length (replicate n 0) / slotSize * slotSize) n
 
 pub fresh-judged : (p : Plan) (slots : ℕ) → isPlan p ≡ true → isTableLength (slotSize * slots) ≡ true
-    → recordJudged p (freshTables slots p) ≡ accepted tt
-unfolding recordJudged refuseIf areInboxes freshTables
+    → lentJudged p (freshTables slots p) ≡ accepted tt
+unfolding lentJudged recordJudged andThen refuseIf areInboxes freshTables
 fresh-judged p slots plan whole =
     let right = lengths-right p slots plan whole (freshTables slots p) (length-replicate _ 0) (length-replicate _ 0) (length-replicate _ 0) (length-replicate _ 0) in
     let inboxes = all-forAll (λ l. isTable p (inboxOf p (replicate (p .leaders * (slotSize * slots)) 0) l)) (p .leaders) (λ l h.
     ap (isTable p) (zeros-inboxOf p (p .leaders * (slotSize * slots)) l (plan-bounds p plan .leaders-least) h)
     ∙ zero-table p (inboxSize p (replicate (p .leaders * (slotSize * slots)) 0))) in
-    rw (plan, right, zero-states (p .rms), zero-votes (3 * (p .rms * p .acceptors)), zero-table p (slotSize * slots), inboxes)
+    rw (
+      plan,
+      right,
+      zero-states (p .rms),
+      zero-votes (3 * (p .rms * p .acceptors)),
+      zero-table p (slotSize * slots),
+      inboxes,
+      zeros-sound (p .rms * p .leaders),
+    )
 
 -- an event call's number
 unfoldable isBelow : ℕ → Rows → Bool
 isBelow most end = true
 isBelow most (guard number applies rest) = leb number most && isBelow most rest
 
-applies-below : (most : ℕ) (rows : Rows) → isBelow most rows ≡ true → (k : ℕ) → Applies rows k → k ≤ most
+first-below : (most : ℕ) (rows : Rows) → isBelow most rows ≡ true → (k : ℕ) → First rows k → k ≤ most
 unfolding isBelow
-applies-below most end e k h = absurd (h tt)
-applies-below most (guard n t rest) e k (here h) = rw (h .0) (leb-true n most (both (leb n most) (isBelow most rest) e .0))
-applies-below most (guard n t rest) e k (below h) = applies-below most rest (both (leb n most) (isBelow most rest) e .1) k h
+first-below most end e k h = absurd (h tt)
+first-below most (guard n t rest) e k (here h) = rw (h .0) (leb-true n most (both (leb n most) (isBelow most rest) e .0))
+first-below most (guard n t rest) e k (below h) = first-below most rest (both (leb n most) (isBelow most rest) e .1) k (h .1)
 
-lowest-below : {A : Type 0} (most : ℕ) (rows : Rows) → isBelow most rows ≡ true
-    → (answer : Outcome A) → Lowest rows answer → numberOf answer ≤ most
-lowest-below most rows e (accepted a) lowest = omega arith
-lowest-below most rows e (refused k) lowest = applies-below most rows e k (lowest .refuses k .0 refl .0)
+answer-below : {A : Type 0} (most : ℕ) (rows : Rows) → isBelow most rows ≡ true
+    → (answer : Outcome A) → InOrder rows answer → numberOf answer ≤ most
+answer-below most rows e (accepted a) ordered = omega arith
+answer-below most rows e (refused k) ordered = first-below most rows e k (ordered .refuses k .0 refl)
 
-pub number-below : (p : Plan) (t : Tables) (e : List ℕ) → numberOf (recordStep p t e .answer) ≤ 14
+pub number-below : (p : Plan) (t : Tables) (e : List ℕ) → numberOf (recordStep p t e .answer) ≤ 20
 unfolding isBelow
-number-below p t e = lowest-below 14 (recordRows p t e) refl _ (record-answers p t e)
+number-below p t e = answer-below 20 (recordRows p t e) refl _ (record-answers p t e)
 
 module _ (p : Plan) where
   pub text-next : (t : Tables) (e : List ℕ) (calls : List Call)
@@ -176,12 +186,12 @@ unfolding cutLine
 cut-next a b c d rest = let e : length (a ∷ b ∷ c ∷ d ∷ rest) % 4 ≡ length rest % 4 = omega arith in rw e
 
 module _ (p : Plan) where
-  cut-text : (t : Tables) → recordJudged p t ≡ accepted tt → (e : List ℕ) → isEvent p e ≡ false → (most : ℕ)
+  cut-text : (t : Tables) → lentJudged p t ≡ accepted tt → (e : List ℕ) → isEvent p e ≡ false → (most : ℕ)
       → textOf p t (event e ∷ callsIn most []) ≡ line 7 ++ wordOf (endingOf (t .states))
   unfolding recordStep andThen refuseIf
   cut-text t ok e none most = text-next p t e (callsIn most []) ∙ rw (ok, none, calls-end most, text-end p t)
 
-  pub text-whole : (most : ℕ) (events : List ℕ) → length events ≤ 4 * most → (t : Tables) → recordJudged p t ≡ accepted tt
+  pub text-whole : (most : ℕ) (events : List ℕ) → length events ≤ 4 * most → (t : Tables) → lentJudged p t ≡ accepted tt
       → textOf p t (callsIn most events)
       ≡ numberLines (numbersOf (singleCalls p t (eventsOf events)))
       ++ (cutLine events ++ wordOf (endingOf (tablesLeft t (singleCalls p t (eventsOf events)) .states)))

@@ -3,7 +3,7 @@
 --     not-contradicted           on a grounded record the answer is not 11
 --     not-contradicted-empty     nor where N holds no message
 -- Assumes nothing.
-use Prim.Native.Nat.{ℕ, _<_}
+use Prim.Native.Nat.{ℕ}
 use mathlib.Core.Bool.{Bool, true, false}
 use mathlib.Core.List.{List, []}
 use mathlib.Core.Logic.{_⊎_, inl, inr}
@@ -13,8 +13,9 @@ use Rattle.message.specs.declared.Plan.{Plan}
 use Rattle.message.specs.declared.Message as Wire
 use Rattle.message.specs.Outcome.{Outcome, accepted, refused}
 use Rattle.message.specs.Outcome.Laws.{accepted-not-refused}
-use Rattle.message.specs.Rows.{Either, here, below, Lowest}
-use Rattle.message.specs.Rows.Named.{row-applies, applies-row}
+use Rattle.message.specs.Rows.{Either, here, below, InOrder}
+use Rattle.message.specs.Rows.Laws.{applies-of-first}
+use Rattle.message.specs.Rows.Named.{row-applies, applies-row, first-passed}
 use Rattle.slots.specs.Table.{messages}
 use Rattle.slots.specs.Send.{messageAt}
 use Rattle.change.specs.declared.Sent.{Sent}
@@ -32,21 +33,21 @@ use Rattle.matching.specs.Leader.{InboxFull}
 use Rattle.conformance.specs.Record.{ownInbox, recordRows}
 use Rattle.safety.specs.Grounds.{sentIn, Grounded}
 
-module _ (p : Plan) (t : Tables) (e : List ℕ) (answer : Outcome Sent) (rows : Lowest (recordRows p t e) answer) where
-  -- a call that refused with a higher number was given an event
-  row-7 : (k : ℕ) → 7 < k → answer ≡ refused k → isEvent p e ≡ true
-  row-7 k above is = go (isEvent p e) refl
+module _ (p : Plan) (t : Tables) (e : List ℕ) (answer : Outcome Sent) (rows : InOrder (recordRows p t e) answer) where
+  -- a call that refused with 11 was given an event: row 7 stands before it
+  row-7 : answer ≡ refused 11 → isEvent p e ≡ true
+  row-7 is = go (isEvent p e) refl (first-passed (recordRows p t e) 11 7 (rows .refuses 11 .0 is))
     where
-      go : (b : Bool) → isEvent p e ≡ b → isEvent p e ≡ true
-      go true h = h
-      go false h = absurd (rows .refuses k .0 is .1 7 above (applies-row (recordRows p t e) 7 (here (h, tt))))
+      go : (b : Bool) → isEvent p e ≡ b → ((isEvent p e ≡ false) × Unit {1} → ⊥) → isEvent p e ≡ true
+      go true h none = h
+      go false h none = absurd (none (h, tt))
 
   -- row 11
   abbrev Contradicted : Type 0
   Contradicted = (kindOf e ≡ 2) × SlotHolds p (t .network) e (λ m. Contradicts (rmStateOf (t .states) (whoOf e)) m)
 
   row-11 : answer ≡ refused 11 → Contradicted
-  row-11 is = go (row-applies (recordRows p t e) 11 (rows .refuses 11 .0 is .0))
+  row-11 is = go (row-applies (recordRows p t e) 11 (applies-of-first (recordRows p t e) 11 (rows .refuses 11 .0 is)))
     where
       go : Either (Contradicted × Unit {1}) (Unit {1} → ⊥) → Contradicted
       go (here h) = h .0
@@ -77,4 +78,4 @@ module _ (p : Plan) (t : Tables) (e : List ℕ) (answer : Outcome Sent) (rows : 
     pub not-contradicted : answer ≡ refused 11 → ⊥
     not-contradicted is =
         let (kind, (m, there, against)) = row-11 is in
-        disagrees (rm-who p e (row-7 11 (omega arith) is) (omega arith)) m (m, member-at _ _ m there, refl) against
+        disagrees (rm-who p e (row-7 is) (omega arith)) m (m, member-at _ _ m there, refl) against

@@ -22,7 +22,7 @@ use Rattle.record.specs.Record.Laws.{Sound}
 use Rattle.record.specs.Record.Parts.{inboxOf-with, inboxOf-with-other}
 use Rattle.matching.specs.Reading.{messageOf, setOf}
 use Rattle.matching.specs.Call.{Stores}
-use Rattle.safety.specs.Grounds.{sentIn, InvOf, Grounded}
+use Rattle.safety.specs.Grounds.{sentIn, InvOf, Standing, Grounded}
 use Rattle.safety.specs.Grounds.Stored.{stores-kept, stores-new, stores-split}
 
 abbrev Heard : Plan → (Message → Type 0) → ℕ → List ℕ → Type 0
@@ -41,7 +41,7 @@ module _ (p : Plan) (inboxes : List ℕ) (l : ℕ) (box : List ℕ) (some : 0 < 
       go (yes e) = rw (e, inboxOf-with p inboxes l some member box whole) new
       go (no d) = rw (inboxOf-with-other p inboxes l some member box whole k below d) (others k below d)
 
-module _ (p : Plan) (t t′ : Tables) (g : Grounded p t) (s : Sound p t′) (inv : InvOf p t′) (kept : (x : Message) → sentIn p t x → sentIn p t′ x) where
+module _ (p : Plan) (t t′ : Tables) (g : Grounded p t) (s : Sound p t′) (standing : Standing p t′) (inv : InvOf p t′) (kept : (x : Message) → sentIn p t x → sentIn p t′ x) where
   pub grounded-same : t′ .inboxes ≡ t .inboxes
       → ((l b i : ℕ) (v : Val) → owns p l b ≡ true → sentIn p t′ (phase2a i b v) → sentIn p t (phase2a i b v)) → Grounded p t′
   grounded-same same old =
@@ -50,6 +50,7 @@ module _ (p : Plan) (t t′ : Tables) (g : Grounded p t) (s : Sound p t′) (inv
         inv = inv;
         inboxes = rw same (λ l h x k. kept x (g .inboxes l h x k));
         own-2a = rw same (λ l h b o i v k. g .own-2a l h b o i v (old l b i v o k));
+        standing = standing;
       }
 
   module _ (l : ℕ) (member : l < p .leaders) (m : Wire.Message) (box : List ℕ) (stores : Stores p (inboxOf p (t .inboxes) l) m box)
@@ -75,4 +76,5 @@ module _ (p : Plan) (t t′ : Tables) (g : Grounded p t) (s : Sound p t′) (inv
           inboxes = rw same
               (inbox-cases p (t .inboxes) l box some member whole (Heard p (sentIn p t′)) heard-new (λ k below other x h. kept x (g .inboxes k below x h)));
           own-2a = rw same (inbox-cases p (t .inboxes) l box some member whole (Owned p (sentIn p t′)) owned-new owned-other);
+          standing = standing;
         }

@@ -14,7 +14,6 @@ use lib.ListN.{length}
 use Rattle.message.specs.declared.Plan.{Plan}
 use Rattle.message.specs.declared.Message as Wire
 use Rattle.message.specs.Outcome.{Outcome}
-use Rattle.message.specs.Plan.Laws.{plan-bounds}
 use Rattle.change.specs.declared.Sent.{Sent}
 use Rattle.event.specs.Event.{whoOf, highOf, lowOf}
 use Rattle.paxos_commit.specs.PaxosCommit.{Val, Message, phase1a, phase1b, phase2a, phase2b, Commit, Abort, Send, UnchangedMsgs, Decided}
@@ -25,18 +24,17 @@ use Rattle.paxos_commit.specs.PaxosCommit.Safety.Acceptor.{inv-phase1b, inv-pha
 use Rattle.leader.specs.Leader.{owns}
 use Rattle.phase2a.specs.Phase2a.Laws.{one-owner, owns-above}
 use Rattle.record.specs.Record.{Tables, inboxSize, withInbox}
-use Rattle.record.specs.Record.Laws.{Sound, inbox-whole}
-use Rattle.record.specs.Record.Parts.{length-inboxOf}
+use Rattle.record.specs.Record.Laws.{Sound}
 use Rattle.matching.specs.Reading.{isRM, isAcceptor, isMajoritySet, messageOf}
 use Rattle.matching.specs.Theorems.{majorities-meet}
-use Rattle.matching.specs.Call.{HasRoom, Stores}
+use Rattle.matching.specs.Call.{Stores}
 use Rattle.matching.specs.Call.Laws.{member-at}
 use Rattle.matching.specs.Leader.{Phase2aAction, InboxFull}
 use Rattle.conformance.specs.Record.{recordState, ownInbox, Acted}
 use Rattle.conformance.specs.Record.{prepares, chooses-to-abort, receives-commit, receives-abort, promises, casts-vote, receives, opens-ballot}
 use Rattle.conformance.specs.Record.{proposes, commits, aborts}
-use Rattle.safety.specs.Grounds.{sentIn, seenBy, InvOf, Grounded}
-use Rattle.safety.specs.Grounds.Stored.{stores-length}
+use Rattle.safety.specs.Grounds.{sentIn, seenBy, InvOf, Standing, Grounded}
+use Rattle.safety.specs.Grounds.Marks.{commit-seen, abort-seen, box-whole}
 use Rattle.safety.specs.Grounds.Inboxes.{grounded-same, grounded-inbox}
 
 abbrev pub isProposal : Message → Bool
@@ -59,22 +57,15 @@ unowned-zero p j w l b i v o e = let d : b ≡ 0 = cc in let above = owns-above 
 same-inboxes : {t′ u : Tables} → t′ ≡ u → t′ .inboxes ≡ u .inboxes
 same-inboxes same = ap (λ (u : Tables). u .inboxes) same
 
-module _ (p : Plan) (t : Tables) (e : List ℕ) (answer : Outcome Sent) (t′ : Tables) (g : Grounded p t) (s : Sound p t′) where
+module _ (p : Plan) (t : Tables) (e : List ℕ) (answer : Outcome Sent) (t′ : Tables) (g : Grounded p t) (s : Sound p t′) (standing : Standing p t′) where
   sends : (m : Message) → Send (isRM p) (isAcceptor p) (isMajoritySet p) m (recordState p t) (recordState p t′) → InvOf p t′ → t′ .inboxes ≡ t .inboxes
       → Unowned p m → Grounded p t′
   sends m sent inv same unowned =
-      grounded-same p t t′ g s inv (λ x h. sent x .1 (inl h)) same
+      grounded-same p t t′ g s standing inv (λ x h. sent x .1 (inl h)) same
       (λ l b i v o h. ⊎-elim (λ k. k) (λ is. absurd (unowned l b i v o is)) (sent _ .0 h))
 
   quiet : UnchangedMsgs (isRM p) (isAcceptor p) (isMajoritySet p) (recordState p t) (recordState p t′) → InvOf p t′ → t′ .inboxes ≡ t .inboxes → Grounded p t′
-  quiet sent inv same = grounded-same p t t′ g s inv (λ x h. sent x .1 h) same (λ l b i v o h. sent _ .0 h)
-
-  -- the inbox that gains a message for which it has room keeps its length
-  box-whole : whoOf e < p .leaders → (m : Wire.Message) → ((HasRoom p (ownInbox p t e) m → ⊥) → ⊥) → (box : List ℕ) → Stores p (ownInbox p t e) m box
-      → length box ≡ inboxSize p (t .inboxes)
-  box-whole member m room box stores =
-      stores-length p (ownInbox p t e) box m (inbox-whole p t (g .sound) (whoOf e) member) room stores
-      ∙ length-inboxOf p (t .inboxes) (whoOf e) (plan-bounds p (g .sound .plan) .leaders-least) member
+  quiet sent inv same = grounded-same p t t′ g s standing inv (λ x h. sent x .1 h) same (λ l b i v o h. sent _ .0 h)
 
   -- all that the event's leader has received was sent
   heard : whoOf e < p .leaders → (x : Message) → seenBy p t (whoOf e) x → sentIn p t x
@@ -92,7 +83,7 @@ module _ (p : Plan) (t : Tables) (e : List ℕ) (answer : Outcome Sent) (t′ : 
       → (m : Wire.Message) → phase2a (highOf e) (lowOf e) (acts .1 .2) ≡ messageOf m → (box : List ℕ) → Stores p (ownInbox p t e) m box
       → length box ≡ inboxSize p (t .inboxes) → t′ .inboxes ≡ withInbox p (t .inboxes) (whoOf e) box → Grounded p t′
   grounded-proposes member rm owned acts m is box stores whole same =
-      grounded-inbox p t t′ g s
+      grounded-inbox p t t′ g s standing
       (inv-phase2a (g .inv) (recordState p t′) (majorities-meet p .1) _ (heard member) (lowOf e) (highOf e) rm (owns-above p (lowOf e) (whoOf e) owned) unsent acts)
       (λ x h. sent x .1 (inl h)) (whoOf e) member m box stores whole same
       (rw (← is) (sent _ .1 (inr refl)))
@@ -121,8 +112,8 @@ module _ (p : Plan) (t : Tables) (e : List ℕ) (answer : Outcome Sent) (t′ : 
   grounded-acted room (casts-vote kind acc ins bal val slot acts sent same) =
       sends _ (acts .3) (inv-phase2b (g .inv) (recordState p t′) (whoOf e) acc ins bal _ acts) (same-inboxes same) (unowned-other p _ refl)
   grounded-acted room (receives kind member m slot taken is box stores same) =
-      grounded-inbox p t t′ g s (rw same (g .inv)) (λ x h. rw same h) (whoOf e) member m box stores
-      (box-whole member m (λ full. room (inl (kind, (m, slot, full)))) box stores)
+      grounded-inbox p t t′ g s standing (rw same (g .inv)) (λ x h. rw same h) (whoOf e) member m box stores
+      (box-whole p t e (g .sound) member m (λ full. room (inl (kind, (m, slot, full)))) box stores)
       (same-inboxes same)
       (rw same (m, member-at _ _ m slot, refl))
       (λ k b i v o h. inl (rw same at h))
@@ -131,12 +122,15 @@ module _ (p : Plan) (t : Tables) (e : List ℕ) (answer : Outcome Sent) (t′ : 
       (same-inboxes same)
       (unowned-other p _ refl)
   grounded-acted room (proposes kind member rm owned acts is sent box stores same) =
-      grounded-proposes member rm owned acts _ is box stores (box-whole member _ (λ full. room (inr (kind, full))) box stores) (same-inboxes same)
+      grounded-proposes member rm owned acts _ is box stores (box-whole p t e (g .sound) member _ (λ full. room (inr (kind, full))) box stores)
+      (same-inboxes same)
   grounded-acted room (commits kind member acts sent same) =
-      sends _ (acts .1) (inv-decide-commit (g .inv) (recordState p t′) (decided (seenBy p t (whoOf e))) (λ i. chosen member i _) acts)
+      sends _ (acts .1) (inv-decide-commit (g .inv) (recordState p t′) (decided (seenBy p t (whoOf e))) (λ i. chosen member i _)
+      (commit-seen p t (g .standing) (whoOf e) member _ _ acts))
       (same-inboxes same)
       (unowned-other p _ refl)
   grounded-acted room (aborts kind member acts sent same) =
-      sends _ (acts .1) (inv-decide-abort (g .inv) (recordState p t′) (decided (seenBy p t (whoOf e))) (λ i. chosen member i _) acts)
+      sends _ (acts .1) (inv-decide-abort (g .inv) (recordState p t′) (decided (seenBy p t (whoOf e))) (λ i. chosen member i _)
+      (abort-seen p t (g .standing) (whoOf e) member _ _ acts))
       (same-inboxes same)
       (unowned-other p _ refl)

@@ -4,7 +4,8 @@
 --     initial-zeros      it reads as PCInit of module PaxosCommit
 --     grounded-zeros     if it is judged sound, it is grounded
 -- Assumes nothing.
-use Prim.Native.Nat.{ℕ, _<_}
+use Prim.Native.Nat.{ℕ, _*_, _<_}
+use mathlib.Core.Bool.{true}
 use mathlib.Core.List.{List, [], List·Memᴰ, List·Memᴰ·not-nil}
 use mathlib.Core.Path.{_≡_, _∙_, ap}
 use native.Mathlib.Omega.{arith}
@@ -15,12 +16,14 @@ use Rattle.slots.specs.Table.{messages}
 use Rattle.tcommit.specs.RmState.{committed}
 use Rattle.paxos_commit.specs.PaxosCommit.{Message, PCInit}
 use Rattle.paxos_commit.specs.PaxosCommit.Safety.Histories.{inv-init}
+use Rattle.leader.specs.Leader.{isSummary}
 use Rattle.record.specs.Record.{Tables, inboxSize, zeroed}
 use Rattle.record.specs.Record.Laws.{Sound}
 use Rattle.record.specs.Record.Parts.{zeros-inboxOf}
 use Rattle.matching.specs.Reading.{isRM, isAcceptor, isMajoritySet, setOf}
 use Rattle.conformance.specs.Record.{recordState}
 use Rattle.safety.specs.Grounds.{seenBy, Grounded}
+use Rattle.safety.specs.Grounds.Marks.{standing-zeros}
 use Rattle.safety.specs.Grounds.Zeros.{member-zeros, getD-zeros, messages-zeros, aStateOf-zeros}
 
 -- a table of zeros holds no message
@@ -47,14 +50,15 @@ module _ (p : Plan) (t : Tables) where
   )
 
   pub grounded-zeros : t .states ≡ zeroed (t .states) → t .votes ≡ zeroed (t .votes) → t .network ≡ zeroed (t .network) → t .inboxes ≡ zeroed (t .inboxes)
-      → Sound p t → Grounded p t
+      → t .summary ≡ zeroed (t .summary) → Sound p t → isSummary (p .rms * p .leaders) (t .summary) ≡ true → Grounded p t
   unfolding zeroed
-  grounded-zeros states votes network inboxes s =
+  grounded-zeros states votes network inboxes summary s right =
       record {
         sound = s;
         inv = inv-init (initial-zeros states votes network);
         inboxes = λ l h x k. absurd (unseen l h x k);
         own-2a = λ l h b o i v k. absurd (initial-zeros states votes network .2 _ k);
+        standing = standing-zeros p t right inboxes summary;
       }
     where
       unseen : (l : ℕ) → l < p .leaders → (x : Message) → seenBy p t l x → ⊥

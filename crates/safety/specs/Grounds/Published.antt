@@ -1,4 +1,5 @@
--- Each event call is a step of module PaxosCommit as published, its conditions read from msgs: what a leader reads from its inbox is so in N.
+-- Each event call is a step of module PaxosCommit as published, its conditions read from msgs: what a leader reads from its inbox,
+-- and from its bytes of the summary, is so in N.
 --     ActsOrReceives, NextOrStays     an action of PCNext, or a receipt
 --     published-action    where an event call is accepted, its `Action` is an action of PCNext, a receipt apart
 --     published-acted     so the call is, and a receipt leaves W, Q and N
@@ -17,7 +18,7 @@ use Rattle.paxos_commit.specs.PaxosCommit.{State, Message, Commit, Abort, Uncha
 use Rattle.paxos_commit.specs.PaxosCommit.Safety.Leader.{phase2a-of-part, decide-commit-of-part, decide-abort-of-part}
 use Rattle.leader.specs.Leader.{owns}
 use Rattle.phase2a.specs.Phase2a.Laws.{owns-above}
-use Rattle.record.specs.Record.{Tables, withInboxes}
+use Rattle.record.specs.Record.{Tables, withInboxes, withSummary}
 use Rattle.matching.specs.Reading.{isRM, isAcceptor, isMajoritySet, valOf, messageOf}
 use Rattle.matching.specs.Call.{SlotHolds}
 use Rattle.matching.specs.Rm.{RMPrepare, RMChooseToAbort, RMRcvCommitMsg, RMRcvAbortMsg}
@@ -28,6 +29,7 @@ use Rattle.conformance.specs.Action.Laws.{action-acted, copies-acted}
 use Rattle.conformance.specs.Record.{prepares, chooses-to-abort, receives-commit, receives-abort, promises, casts-vote, receives, opens-ballot}
 use Rattle.conformance.specs.Record.{proposes, commits, aborts}
 use Rattle.safety.specs.Grounds.{sentIn, seenBy, Unchanged, Grounded}
+use Rattle.safety.specs.Grounds.Marks.{commit-seen, abort-seen}
 
 -- an action of PCNext, of a kind that is not the receipt's; or a receipt
 abbrev pub ActsOrReceives : Plan → Tables → List ℕ → Tables → Type 0
@@ -35,7 +37,7 @@ ActsOrReceives p t e t′ =
     ((kindOf e ≡ 4 → ⊥) × PCNext (isRM p) (isAcceptor p) (isMajoritySet p) (recordState p t) (recordState p t′))
     ⊎ ((kindOf e ≡ 4) × Unchanged t t′)
 
-pub unchanged-of : (t : Tables) {t′ : Tables} {inboxes : List ℕ} → t′ ≡ withInboxes t inboxes → Unchanged t t′
+pub unchanged-of : (t : Tables) {t′ : Tables} {inboxes summary : List ℕ} → t′ ≡ withSummary (withInboxes t inboxes) summary → Unchanged t t′
 unchanged-of t same = (ap (λ (u : Tables). u .states) same, ap (λ (u : Tables). u .votes) same, ap (λ (u : Tables). u .network) same)
 
 -- an action of PCNext, of a kind that is not the receipt's, to a state s′; or a receipt, by which the variables stay
@@ -93,9 +95,9 @@ module _ (p : Plan) (t : Tables) (e : List ℕ) (g : Grounded p t) where
         acting kind (λ x. omega arith)
         (inr (inl (lowOf e, highOf e, rm, owns-above p (lowOf e) (whoOf e) owned, inr (published-2a member owned (a .kind-6 kind)))))
     published-action (commits kind member acts sent same) a =
-        acting kind (λ x. omega arith) (inr (inr (inl (decide-commit-of-part (g .inv) _ (heard member) s′ (a .kind-7 kind)))))
+        acting kind (λ x. omega arith) (inr (inr (inl (decide-commit-of-part (g .inv) _ (heard member) s′ (commit-seen p t (g .standing) (whoOf e) member _ _ (a .kind-7 kind))))))
     published-action (aborts kind member acts sent same) a =
-        acting kind (λ x. omega arith) (inr (inr (inl (decide-abort-of-part (g .inv) _ (heard member) s′ (a .kind-8 kind)))))
+        acting kind (λ x. omega arith) (inr (inr (inl (decide-abort-of-part (g .inv) _ (heard member) s′ (abort-seen p t (g .standing) (whoOf e) member _ _ (a .kind-8 kind))))))
 
   pub published-acted : {answer : Outcome Sent} {t′ : Tables} → Acted p t e answer t′ → ActsOrReceives p t e t′
   published-acted {answer} {t′} acted =

@@ -1,7 +1,7 @@
 -- One event call on a record that was opened and used, whatever the bytes of the event.
---     Idle                   a record of zeros that every call refuses: the plan or a length is wrong
+--     Idle                   a record of zeros that every call refuses: the plan or a length is wrong, the summary's too
 --     Used, used-zeros       grounded or idle; a record of zeros is one of the two
---     used-event             so it stays
+--     used-event             so it stays; standing-event: and its summary true
 --     path-event, agreed-used, not-contradicted-event     the three claims of demand 3
 --     length-event           W keeps its length
 --     published-event        an accepted call is an action of PCNext, or a receipt; kept-event: a refused one leaves W, Q and N
@@ -21,8 +21,9 @@ use Rattle.slots.specs.Table.{messages}
 use Rattle.slots.specs.Send.{messageAt}
 use Rattle.change.specs.declared.Sent.{Sent}
 use Rattle.tcommit.specs.RmState.{committed, aborted}
-use Rattle.record.specs.Record.{Tables, zeroed, recordJudged, recordStep}
+use Rattle.record.specs.Record.{Tables, zeroed, lentJudged, recordStep}
 use Rattle.record.specs.Record.Laws.{Sound, sound, judged}
+use Rattle.record.specs.Record.Summary.{lent-judged, lent-sound}
 use Rattle.matching.specs.Call.{Sends}
 use Rattle.paxos_commit.specs.PaxosCommit.{State}
 use Rattle.conformance.specs.Record.{recordState, Acted}
@@ -30,9 +31,10 @@ use Rattle.conformance.specs.Action.{Action}
 use Rattle.conformance.specs.Record.{prepares, chooses-to-abort, receives-commit, receives-abort, promises, casts-vote, receives, opens-ballot}
 use Rattle.conformance.specs.Record.{proposes, commits, aborts}
 use Rattle.conformance.specs.Theorems.{record-answers, record-keeps, record-acts, record-sound}
-use Rattle.safety.specs.Grounds.{Unchanged, Grounded}
+use Rattle.safety.specs.Grounds.{Unchanged, Standing, Grounded}
 use Rattle.safety.specs.Grounds.Stored.{stores-slot}
 use Rattle.safety.specs.Grounds.Opened.{agreed-zeros, messages-none, grounded-zeros}
+use Rattle.safety.specs.Grounds.Marks.{standing-acted}
 use Rattle.safety.specs.Grounds.Kept.{grounded-acted}
 use Rattle.safety.specs.Grounds.Published.{unchanged-of, ActsOrReceives, NextOrStays, published-action, published-acted}
 use Rattle.safety.specs.Grounds.Moves.{Path, agreed, path-acted}
@@ -40,21 +42,23 @@ use Rattle.safety.specs.Grounds.Contradicted.{row-14, not-contradicted, 
 
 pub record Idle (p : Plan) (t : Tables) : Type 0 where
   pub number : ℕ
-  pub refuses : recordJudged p t ≡ refused number
+  pub refuses : lentJudged p t ≡ refused number
   pub working : t .states ≡ zeroed (t .states)
   pub empty : t .network ≡ zeroed (t .network)
+  pub unheard : t .inboxes ≡ zeroed (t .inboxes)
+  pub unmarked : t .summary ≡ zeroed (t .summary)
 
 abbrev pub Used : Plan → Tables → Type 0
 Used p t = Grounded p t ⊎ Idle p t
 
 module _ (p : Plan) (t : Tables) where
   pub used-zeros : t .states ≡ zeroed (t .states) → t .votes ≡ zeroed (t .votes) → t .network ≡ zeroed (t .network) → t .inboxes ≡ zeroed (t .inboxes)
-      → Used p t
-  used-zeros w q n i = go (recordJudged p t) refl
+      → t .summary ≡ zeroed (t .summary) → Used p t
+  used-zeros w q n i s = go (lentJudged p t) refl
     where
-      go : (o : Outcome (Unit {0})) → recordJudged p t ≡ o → Used p t
-      go (accepted a) is = inl (grounded-zeros p t w q n i (sound p t is))
-      go (refused k) is = inr (record { number = k; refuses = is; working = w; empty = n })
+      go : (o : Outcome (Unit {0})) → lentJudged p t ≡ o → Used p t
+      go (accepted a) is = let (ok, right) = lent-sound p t is in inl (grounded-zeros p t w q n i s (sound p t ok) right)
+      go (refused k) is = inr (record { number = k; refuses = is; working = w; empty = n; unheard = i; unmarked = s })
 
   pub agreed-used : Used p t → List·Memᴰ committed (t .states) → List·Memᴰ aborted (t .states) → ⊥
   agreed-used (inl g) h k = agreed p t g h k
@@ -69,8 +73,11 @@ module _ (p : Plan) (t : Tables) (e : List ℕ) where
   unfolding recordStep andThen
   idle-refuses i sent is = accepted-not-refused (rw (i .refuses) at is)
 
+  still-lent : Grounded p t → lentJudged p (recordStep p t e .tables) ≡ accepted tt
+  still-lent g = record-sound p t e (lent-judged p t (judged p t (g .sound)) (g .standing .right))
+
   still-sound : Grounded p t → Sound p (recordStep p t e .tables)
-  still-sound g = sound p _ (record-sound p t e (judged p t (g .sound)))
+  still-sound g = sound p _ (lent-sound p _ (still-lent g) .0)
 
   kept-refused : (k : ℕ) → recordStep p t e .answer ≡ refused k → recordStep p t e .tables ≡ t
   kept-refused k is = record-keeps p t e k is
@@ -82,12 +89,17 @@ module _ (p : Plan) (t : Tables) (e : List ℕ) where
       go (accepted sent) is =
           let acted = record-acts p t e sent is in
           let room = row-14 p t e _ (record-answers p t e) sent is in
-          (path-acted p t g e _ _ (still-sound g) acted, grounded-acted p t e _ _ g (still-sound g) room acted)
+          let standing = standing-acted p t e _ _ (g .sound) (g .standing) (lent-sound p _ (still-lent g) .1) room acted in
+          (path-acted p t g e _ _ (still-sound g) acted, grounded-acted p t e _ _ g (still-sound g) standing room acted)
       go (refused k) is = rw (kept-refused k is) (inl refl, g)
 
   pub used-event : Used p t → Used p (recordStep p t e .tables)
   used-event (inl g) = inl (grounded-event g .1)
   used-event (inr i) = rw (idle-keeps i) (inr i)
+
+  pub standing-event : Used p t → Standing p t → Standing p (recordStep p t e .tables)
+  standing-event (inl g) st = grounded-event g .1 .standing
+  standing-event (inr i) st = rw (idle-keeps i) st
 
   pub path-event : Used p t → Path p (t .states) (recordStep p t e .tables .states)
   path-event (inl g) = grounded-event g .0

@@ -2,6 +2,7 @@
 --     peek-holds, edge-holds, messages-holds     the slot at a place, the edge, the messages before it
 --     locate-holds     where a message stands or may be appended
 --     store-holds      the table after a message was appended
+--     slot-in-range    a message of a judged table is in range
 -- Assumes nothing.
 use Prim.Native.Nat.{ℕ, zero, suc, _+_, _-_, _*_, _/_, _≤_, _<_, zero-le}
 use mathlib.Core.Bool.{true, cond}
@@ -17,15 +18,16 @@ use Rattle.message.specs.declared.Plan.{Plan}
 use Rattle.message.specs.declared.Message.{Message}
 use Rattle.message.specs.Form.{slotOf, decode, isInRange}
 use Rattle.message.specs.Form.Laws.{length-slotOf, decode-slotOf, slotOf-used}
-use Rattle.slots.specs.Table.{Slot, Unused, Used, slotSize, slots, joinSlots, tableOf, sameBytes, storeAt}
-use Rattle.message.specs.Outcome.Laws.{both}
+use Rattle.slots.specs.Table.{Slot, Unused, Used, isTableLength, isTable, messages, slotSize, slots, joinSlots, tableOf, sameBytes, storeAt}
+use Rattle.message.specs.Outcome.{accepted}
+use Rattle.message.specs.Outcome.Laws.{both, accepted-inj, accepted-not-refused}
 use Rattle.slots.specs.declared.Place.the-variants.{At}
 use Rattle.slots.specs.Table.Scan.{peekSlot, peekTable, slotMessage, peekAt, edge, slotsHeld, peekMessages, locateFrom, locate}
 use Rattle.slots.specs.Table.Edge.{edge-within, edge-reached, edge-unused}
 use Rattle.slots.specs.Table.Laws.{first-slot}
 use Rattle.slots.specs.Table.Scan.Laws.{peekSlot-used, storeAt-in}
 use Rattle.slots.specs.Send.{sameMessage, placeFrom, placeIn, messageAt}
-use Rattle.slots.specs.Table.Holds.{Holds, zeroSlot, AllSized, length-joinSlots, slots-tableOf, read-holding, length-holds, allInRange}
+use Rattle.slots.specs.Table.Holds.{Holds, holds-judged, zeroSlot, AllSized, length-joinSlots, slots-tableOf, read-holding, length-holds, allInRange}
 
 peek-slotOf : (p : Plan) (m : Message) → peekSlot (slotOf p m) ≡ Used m
 peek-slotOf p m = peekSlot-used (slotOf p m) (slotOf-used p m) ∙ ap Used (decode-slotOf p m)
@@ -165,3 +167,13 @@ module _ (p : Plan) (room : ℕ) (ms : List Message) (t : List ℕ) (h : Holds p
         fits = rw n short;
         inRange = allInRange-append p ms m (h .inRange) i;
       }
+
+pub slot-in-range : (p : Plan) (t : List ℕ) → isTableLength (length t) ≡ true → isTable p t ≡ true
+    → (k : ℕ) (m : Message) → messageAt (messages p t) k ≡ accepted m → isInRange p m ≡ true
+unfolding messageAt allInRange
+slot-in-range p t whole ordered k m e = go (messages p t) k (holds-judged p t whole ordered .inRange) e
+  where
+    go : (ms : List Message) (k : ℕ) → allInRange p ms ≡ true → messageAt ms k ≡ accepted m → isInRange p m ≡ true
+    go [] k h e = absurd (accepted-not-refused e)
+    go (x ∷ ms) zero h e = ap (isInRange p) (sym (accepted-inj e)) ∙ both (isInRange p x) (allInRange p ms) h .0
+    go (x ∷ ms) (suc k) h e = go ms k (both (isInRange p x) (allInRange p ms) h .1) e

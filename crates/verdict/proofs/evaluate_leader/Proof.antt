@@ -1,29 +1,10 @@
--- `verdict::evaluate_leader` meets its contract: the part of I that is lent is the leader's inbox. Assumes nothing.
+-- `verdict::evaluate_leader` meets its contract: the parts that are lent are the leader's inbox and its bytes of the summary. Assumes nothing.
 use native.Mathlib.Omega.{arith}
-use borrow.Author.Needs.{needs}
 use Rattle.verdict.proofs.Inboxes.{part-within-of}
 use Rattle.verdict.proofs.Evaluating.{leader-part}
+use borrow.Author.Needs.{needs}
 use Rattle.verdict.proofs.evaluate_leader.Statement.{statement}
 use Rattle.verdict.proofs.evaluate_leader.Tie as tie
-
--- the part lies within I
-mul-from : tie.Need-mul-from
-mul-from c =
-    let start = c .before .before .before .before .before in
-    omega (arith, part-within-of (start .args .plan) (start .args .inboxes .now) _ _ (c .before .byte-at .ensures) (start .pre))
-
-add-to : tie.Need-add-to
-add-to c =
-    let start = c .before .before .before .before .before in
-    omega (arith, part-within-of (start .args .plan) (start .args .inboxes .now) _ _ (c .before .byte-at .ensures) (start .pre))
-
-part-inbox-end : tie.Need-part-inbox-end
-part-inbox-end c =
-    let start = c .before .before .before .before .before in
-    omega (arith, part-within-of (start .args .plan) (start .args .inboxes .now) _ _ (c .before .byte-at .ensures) (start .pre))
-
-returns : tie.Need-returns
-returns c = leader-part _ _ _ _ _ (c .before .before .before .byte-at .ensures) _ (c .evaluate .ensures)
 
 cast-who : tie.Need-cast-who
 cast-who c = search needs
@@ -34,11 +15,66 @@ cast-size c = search needs
 div-size : tie.Need-div-size
 div-size c = search needs
 
+mul-from : tie.Need-mul-from
+mul-from c =
+    let at-who = c .before in
+    let start = at-who .before .before .before .before .before in
+    omega (arith, part-within-of (start .args .plan) (start .args .inboxes .now) _ _ (at-who .byte-at .ensures) (start .pre))
+
+add-to : tie.Need-add-to
+add-to c =
+    let at-who = c .before in
+    let start = at-who .before .before .before .before .before in
+    omega (arith, part-within-of (start .args .plan) (start .args .inboxes .now) _ _ (at-who .byte-at .ensures) (start .pre))
+
 sub-inbox : tie.Need-sub-inbox
 sub-inbox c = search needs
 
 part-inbox-start : tie.Need-part-inbox-start
 part-inbox-start c = search needs
+
+part-inbox-end : tie.Need-part-inbox-end
+part-inbox-end c =
+    let at-who = c .before in
+    let start = at-who .before .before .before .before .before in
+    omega (arith, part-within-of (start .args .plan) (start .args .inboxes .now) _ _ (at-who .byte-at .ensures) (start .pre))
+
+cast-count : tie.Need-cast-count
+cast-count c = search needs
+
+div-count : tie.Need-div-count
+div-count c = search needs
+
+mul-start : tie.Need-mul-start
+mul-start c =
+    let at-who = c .before .before .before in
+    let start = at-who .before .before .before .before .before in
+    omega (arith, part-within-of (start .args .plan) (start .args .summary .now) _ _ (at-who .byte-at .ensures) (start .pre))
+
+add-end : tie.Need-add-end
+add-end c =
+    let at-who = c .before .before .before in
+    let start = at-who .before .before .before .before .before in
+    omega (arith, part-within-of (start .args .plan) (start .args .summary .now) _ _ (at-who .byte-at .ensures) (start .pre))
+
+sub-own : tie.Need-sub-own
+sub-own c = search needs
+
+part-own-start : tie.Need-part-own-start
+part-own-start c = search needs
+
+part-own-end : tie.Need-part-own-end
+part-own-end c =
+    let at-who = c .before .before .before in
+    let start = at-who .before .before .before .before .before in
+    omega (arith, part-within-of (start .args .plan) (start .args .summary .now) _ _ (at-who .byte-at .ensures) (start .pre))
+
+returns : tie.Need-returns
+returns c =
+    let at-who = c .before .before .before .before .before in
+    let start = at-who .before .before .before .before .before in
+    leader-part (start .args .plan) (start .args .inboxes .now) (start .args .summary .now) (start .args .network .now) (start .args .event .now) _
+    (at-who .byte-at .ensures) _ (c .evaluate .ensures)
 
 pub evaluate-leader-spec : {M : Type 1} → statement M
 evaluate-leader-spec =
@@ -53,5 +89,12 @@ evaluate-leader-spec =
     sub-inbox
     part-inbox-start
     part-inbox-end
+    cast-count
+    div-count
+    mul-start
+    add-end
+    sub-own
+    part-own-start
+    part-own-end
     (λ c κs. tt)
     returns)

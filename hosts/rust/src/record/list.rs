@@ -6,7 +6,8 @@ use crate::{Event, Refusal, run};
 
 impl<T: AsRef<[u8]> + AsMut<[u8]>> Record<T> {
     /// The list call: the events in order, one that is refused between others too, and what each answered. A backlog is
-    /// one step, all of it or none: where the whole list is refused, with any up to `BadInbox`, nothing has happened.
+    /// one step, all of it or none: where the whole list is refused, with any up to `BadInbox` or with `BadSummary`,
+    /// nothing has happened.
     ///
     /// ```
     /// use paxos_commit::{Ending, Event, Plan, Record, Refusal};
@@ -44,6 +45,7 @@ impl<T: AsRef<[u8]> + AsMut<[u8]>> Record<T> {
             self.votes.as_mut(),
             self.network.as_mut(),
             self.inboxes.as_mut(),
+            self.summary.as_mut(),
             events,
             answers,
         )

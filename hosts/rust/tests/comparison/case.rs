@@ -1,14 +1,15 @@
 //! A history of calls, the two engines that it is run on, and running it on both.
 
 use crate::reference;
-use paxos_commit::{Answer, Ending, Fields, Plan, Refusal};
+use paxos_commit::{Answer, Ending, Fields, Plan, Refusal, SLOT};
 
-/// W, Q, N and I.
-pub type Tables = [Vec<u8>; 4];
+/// W, Q, N, I and the summary.
+pub type Tables = [Vec<u8>; 5];
 pub const W: usize = 0;
 pub const Q: usize = 1;
 pub const N: usize = 2;
 pub const I: usize = 3;
+pub const S: usize = 4;
 
 #[derive(Clone, Debug, PartialEq)]
 pub enum Call {
@@ -18,8 +19,8 @@ pub enum Call {
     Step(Vec<u8>),
     Rm(Vec<u8>),
     Acceptor(Vec<u8>),
-    /// It is lent this part of I.
-    Leader(usize, usize, Vec<u8>),
+    /// It is lent this part of I, and this part of the summary.
+    Leader([usize; 2], [usize; 2], Vec<u8>),
     Deliver(Vec<u8>),
     Ending,
     /// A list, and the answers as they are lent.
@@ -81,7 +82,7 @@ impl Call {
 #[derive(Clone, Debug, PartialEq)]
 pub struct Op {
     pub plan: Plan,
-    pub lengths: Option<[usize; 4]>,
+    pub lengths: Option<[usize; 5]>,
     pub bytes: Vec<(usize, usize, u8)>,
     /// What the call does is undone after it too: it would damage tables that the history goes on with.
     pub undone: bool,
@@ -144,7 +145,7 @@ fn code(answer: Result<Answer, Refusal>) -> Code {
 
 impl Engine for Linked {
     fn call(&self, plan: Plan, tables: &mut Tables, answers: &mut [u8], call: &Call) -> Code {
-        let [states, votes, network, inboxes] = tables;
+        let [states, votes, network, inboxes, summary] = tables;
         match call {
             Call::Read(bytes) => match Fields::read(plan, bytes) {
                 Ok(Fields { map, ins, acc, mbal, bal, val }) => {
@@ -162,15 +163,15 @@ impl Engine for Linked {
                     Err(refusal) => 256 * Code::from(refusal.number()),
                 }
             }
-            Call::Open => match paxos_commit::open(plan, states, votes, network, inboxes) {
+            Call::Open => match paxos_commit::open(plan, states, votes, network, inboxes, summary) {
                 Ok(()) => 0,
                 Err(refusal) => refusal.number().into(),
             },
-            Call::Step(event) => code(paxos_commit::step(plan, states, votes, network, inboxes, event)),
+            Call::Step(event) => code(paxos_commit::step(plan, states, votes, network, inboxes, summary, event)),
             Call::Rm(event) => code(paxos_commit::rm_step(plan, states, network, event)),
             Call::Acceptor(event) => code(paxos_commit::acceptor_step(plan, votes, network, event)),
-            Call::Leader(from, to, event) => {
-                code(paxos_commit::leader_step(plan, part(inboxes, *from, *to), network, event))
+            Call::Leader(inbox, own, event) => {
+                code(paxos_commit::leader_step(plan, part(inboxes, *inbox), part(summary, *own), network, event))
             }
             Call::Deliver(bytes) => code(paxos_commit::deliver(plan, network, bytes).map(Answer::Slot)),
             Call::Ending => match paxos_commit::ending(plan, states) {
@@ -179,10 +180,12 @@ impl Engine for Linked {
                 Ok(Ending::Aborted) => 2,
                 Err(refusal) => 65536 + Code::from(refusal.number()),
             },
-            Call::Run(events, _) => match paxos_commit::run(plan, states, votes, network, inboxes, events, answers) {
-                Ok(()) => 0,
-                Err(refusal) => refusal.number().into(),
-            },
+            Call::Run(events, _) => {
+                match paxos_commit::run(plan, states, votes, network, inboxes, summary, events, answers) {
+                    Ok(()) => 0,
+                    Err(refusal) => refusal.number().into(),
+                }
+            }
         }
     }
 }
@@ -194,12 +197,12 @@ impl Engine for Singles {
     fn call(&self, plan: Plan, tables: &mut Tables, answers: &mut [u8], call: &Call) -> Code {
         let Call::Run(events, _) = call else { return Linked.call(plan, tables, answers, call) };
         let mut step = |event: &[u8]| {
-            let [states, votes, network, inboxes] = &mut *tables;
-            paxos_commit::step(plan, states, votes, network, inboxes, event).err().map_or(0, Refusal::number)
+            let [states, votes, network, inboxes, summary] = &mut *tables;
+            paxos_commit::step(plan, states, votes, network, inboxes, summary, event).err().map_or(0, Refusal::number)
         };
-        // Bytes that are no event are refused after the tables.
+        // Bytes that are no event are refused after the tables; a list before the summary.
         match step(&[]) {
-            7 if events.len() != 4 * answers.len() => 19,
+            7 | 20 if events.len() != 4 * answers.len() => 19,
             7 => {
                 for (event, answer) in events.chunks(4).zip(answers) {
                     *answer = step(event);
@@ -211,10 +214,30 @@ impl Engine for Singles {
     }
 }
 
-/// The part of I that is lent; where I was shortened, what is left of it.
-fn part(inboxes: &mut [u8], from: usize, to: usize) -> &mut [u8] {
-    let to = to.min(inboxes.len());
-    &mut inboxes[from.min(to)..to]
+/// The part of I, or of the summary, that is lent; where the table was shortened, what is left of it.
+pub fn part(table: &mut [u8], [from, to]: [usize; 2]) -> &mut [u8] {
+    let to = to.min(table.len());
+    &mut table[from.min(to)..to]
+}
+
+/// Whether an inbox has 2b messages of a majority for this instance, ballot and value.
+pub fn voted(plan: Plan, inbox: &[u8], ins: u8, bal: u8, val: u8) -> bool {
+    let has = |acc| inbox.chunks(SLOT).any(|slot| slot.starts_with(&[0x3B, ins, acc, bal, val]));
+    2 * (0..plan.acceptors).filter(|&acc| has(acc)).count() > plan.acceptors.into()
+}
+
+/// The summary as the inboxes say it.
+pub fn standing(plan: Plan, inboxes: &[u8]) -> Vec<u8> {
+    let decided = |inbox: &[u8], ins, val| {
+        inbox
+            .chunks(SLOT)
+            .any(|slot| slot.starts_with(&[0x3B, ins]) && slot[4] == val && voted(plan, inbox, ins, slot[3], val))
+    };
+    (0..plan.leaders)
+        .map(|leader| &inboxes[plan.inbox_range(inboxes.len(), leader).unwrap()])
+        .flat_map(|inbox| (0..plan.rms).map(move |ins| (inbox, ins)))
+        .map(|(inbox, ins)| u8::from(decided(inbox, ins, 1)) + 2 * u8::from(decided(inbox, ins, 2)))
+        .collect()
 }
 
 /// The hand-written Rust.
@@ -233,7 +256,7 @@ impl Engine for Reference {
         use reference::{Message, Vote};
         let Plan { rms, acceptors, leaders, order } = plan;
         let plan = reference::Plan { rms, acceptors, leaders, order };
-        let [states, votes, network, inboxes] = tables;
+        let [states, votes, network, inboxes, summary] = tables;
         match call {
             Call::Read(bytes) => match reference::read(plan, bytes) {
                 Ok(message) => Code::from_le_bytes(match message {
@@ -274,15 +297,18 @@ impl Engine for Reference {
                     }
                 }
             }
-            Call::Open => match reference::open(plan, states, votes, network, inboxes) {
+            Call::Open => match reference::open(plan, states, votes, network, inboxes, summary) {
                 Ok(()) => 0,
                 Err(number) => number.into(),
             },
-            Call::Step(event) => reference_code(reference::event(plan, states, votes, network, inboxes, event)),
+            Call::Step(event) => {
+                reference_code(reference::event(plan, states, votes, network, inboxes, summary, event))
+            }
             Call::Rm(event) => reference_code(reference::rm_step(plan, states, network, event)),
             Call::Acceptor(event) => reference_code(reference::acceptor_step(plan, votes, network, event)),
-            Call::Leader(from, to, event) => {
-                reference_code(reference::leader_step(plan, part(inboxes, *from, *to), network, event))
+            Call::Leader(inbox, own, event) => {
+                let (inbox, own) = (part(inboxes, *inbox), part(summary, *own));
+                reference_code(reference::leader_step(plan, inbox, own, network, event))
             }
             Call::Deliver(bytes) => reference_code(reference::deliver(plan, network, bytes).map(reference::Sent::Slot)),
             Call::Ending => match reference::ending(plan, states) {
@@ -291,10 +317,12 @@ impl Engine for Reference {
                 Ok(reference::Ending::Aborted) => 2,
                 Err(number) => 65536 + Code::from(number),
             },
-            Call::Run(events, _) => match reference::run(plan, states, votes, network, inboxes, events, answers) {
-                Ok(()) => 0,
-                Err(number) => number.into(),
-            },
+            Call::Run(events, _) => {
+                match reference::run(plan, states, votes, network, inboxes, summary, events, answers) {
+                    Ok(()) => 0,
+                    Err(number) => number.into(),
+                }
+            }
         }
     }
 }

@@ -1,7 +1,7 @@
 //! Random histories: plans of all sizes, fresh and used and full tables, events that are mostly enabled, damage of all
 //! sorts.
 
-use crate::case::{Call, Engine, I, N, Op, Q, Reference, Tables, W};
+use crate::case::{Call, Engine, I, N, Op, Q, Reference, S, Tables, W, standing};
 use paxos_commit::{Event, MAX_SLOTS, Plan, SLOT};
 use std::collections::VecDeque;
 
@@ -91,6 +91,7 @@ impl Generator {
             vec![0; plan.votes_len()],
             vec![0; SLOT * network],
             vec![0; plan.inboxes_len(inbox)],
+            vec![0; plan.summary_len()],
         ];
         if self.random.percent(50) {
             return tables;
@@ -108,6 +109,12 @@ impl Generator {
         for vote in tables[Q].chunks_exact_mut(3) {
             let val = self.random.byte(3);
             vote.copy_from_slice(&[self.ballot(), if val == 0 { 0 } else { self.ballot() }, val]);
+        }
+        // A summary as the inboxes say it, of zeros, or of any other content.
+        match self.random.below(4) {
+            0 => {}
+            1 | 2 => tables[S] = standing(plan, &tables[I]),
+            _ => tables[S].fill_with(|| self.random.byte(4)),
         }
         tables
     }
@@ -176,7 +183,14 @@ impl Generator {
                 op.undone = self.random.percent(30);
                 self.list(tables)
             }
-            _ => self.step(tables),
+            _ => {
+                // Sometimes with a summary that lacks bits: then a receipt may set one by any ballot.
+                if self.random.percent(3) {
+                    let zeros = (0..tables[S].len()).filter(|_| self.random.percent(80)).map(|at| (S, at, 0));
+                    op.bytes.extend(zeros);
+                }
+                self.step(tables)
+            }
         };
         if self.random.percent(9) {
             let several = if self.random.percent(25) { 3 } else { 1 };
@@ -190,7 +204,7 @@ impl Generator {
     /// Another plan, other lengths, or other bytes.
     fn damage(&mut self, op: &mut Op, tables: &Tables, refused: bool) {
         let random = &mut self.random;
-        match random.below(if refused { 7 } else { 22 }) {
+        match random.below(if refused { 8 } else { 24 }) {
             0 | 1 => {
                 let place = random.below(3);
                 let bad = [[0, 17, 255], [0, 8, 200], [0, 5, 255]][place][random.below(3)];
@@ -205,10 +219,27 @@ impl Generator {
                 op.plan = Plan { rms, acceptors, leaders, ..op.plan };
             }
             20 | 21 => op.plan.order = random.order(),
+            22 | 23 => {
+                // Bytes that are another summary, or none.
+                let bytes = [0, 1, 2, 3, 0, 1, 2, 3, 4, 5, 128, 255];
+                for _ in 0..=random.below(3) {
+                    op.bytes.push((S, random.below(tables[S].len()), random.of(&bytes)));
+                }
+            }
+            7 if refused => {
+                let mut lengths = op.lengths.unwrap_or([0, 1, 2, 3, 4].map(|table: usize| tables[table].len()));
+                lengths[S] = Self::summary_length(random, self.plan);
+                op.lengths = Some(lengths);
+            }
             3..=6 => {
-                let mut lengths = op.lengths.unwrap_or([0, 1, 2, 3].map(|table: usize| tables[table].len()));
-                let table = random.below(4);
+                let mut lengths = op.lengths.unwrap_or([0, 1, 2, 3, 4].map(|table: usize| tables[table].len()));
+                let table = random.below(5);
                 let leaders = usize::from(self.plan.leaders);
+                if table == S {
+                    lengths[S] = Self::summary_length(random, self.plan);
+                    op.lengths = Some(lengths);
+                    return;
+                }
                 let over = SLOT * (MAX_SLOTS + 1) * if table == I { leaders } else { 1 };
                 lengths[table] = match random.below(8) {
                     0 => 0,
@@ -245,6 +276,12 @@ impl Generator {
                 op.bytes.push((table, at, byte));
             }
         }
+    }
+
+    /// Mostly another length than a summary's, or a leader's part's.
+    fn summary_length(random: &mut Random, plan: Plan) -> usize {
+        let (all, own) = (plan.summary_len(), plan.leader_summary_len());
+        random.of(&[0, own, own - 1, own + 1, all, all - 1, all - 1, all + 1, all + own, 2 * all, 64, 65])
     }
 
     /// What the reader is given.
@@ -339,8 +376,9 @@ impl Generator {
             (2..=19, Some(3)) => Call::Acceptor(event),
             (2..=19, Some(4..=8)) => {
                 let who = event.get(1).copied().unwrap_or(0) % self.plan.leaders;
-                let part = self.plan.inbox_range(inboxes, who).unwrap_or(0..inboxes);
-                Call::Leader(part.start, part.end, event)
+                let inbox = self.plan.inbox_range(inboxes, who).unwrap_or(0..inboxes);
+                let own = self.plan.summary_range(who).unwrap_or(0..0);
+                Call::Leader([inbox.start, inbox.end], [own.start, own.end], event)
             }
             _ => Call::Step(event),
         }
@@ -386,16 +424,21 @@ impl Generator {
         Call::Run(events, (0..length).map(|at| pattern.wrapping_add((7 * at) as u8)).collect())
     }
 
-    /// A leader's own call on a part of I that is no leader's, or another leader's.
+    /// A leader's own call on a part of I that is no leader's, or another leader's, and on such a part of the summary.
     fn part(&mut self, tables: &Tables) -> Call {
         let event = self.event(tables).to_vec();
         let from = self.random.below(tables[I].len() + 1);
         let to = from + self.random.below(tables[I].len() + 1 - from);
-        if self.random.percent(70) {
-            Call::Leader(from - from % SLOT, to - to % SLOT, event)
-        } else {
-            Call::Leader(from, to, event)
-        }
+        let inbox = if self.random.percent(70) { [from - from % SLOT, to - to % SLOT] } else { [from, to] };
+        let own = self.plan.leader_summary_len();
+        let from = self.random.below(tables[S].len() + 1 - own);
+        let own = match self.random.below(10) {
+            0 => self.random.below(tables[S].len() + 1 - from),
+            1 => own - 1,
+            2 => own + 1,
+            _ => own,
+        };
+        Call::Leader(inbox, [from, from + own], event)
     }
 
     /// Bytes that are mostly no event.

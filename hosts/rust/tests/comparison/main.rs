@@ -1,4 +1,4 @@
-//! The linked calls beside the hand-written Rust of documents 01 and 02 on random histories: answers and all four tables after
+//! The linked calls beside the hand-written Rust of documents 01 and 02 on random histories: answers and all five tables after
 //! each call, byte by byte, and the answers that a list was lent.
 //!
 //!     PAXOS_COMMIT_SEED     another seed (a number; the same seed makes the same calls)
@@ -10,7 +10,8 @@ mod generator;
 mod reference;
 mod shrink;
 
-use case::{CALLS, Call, Case, Code, Engine, Linked, Mismatch, N, Pair, Reference, Singles, Tables, refusal};
+use case::{CALLS, Call, Case, Code, Engine, Linked, Mismatch, Op, Pair, Reference, Singles, Tables};
+use case::{I, N, S, part, refusal, standing, voted};
 use generator::Generator;
 use paxos_commit::Plan;
 
@@ -34,7 +35,7 @@ struct Seen {
     histories: usize,
     longest: usize,
     accepted: [[usize; 9]; ROWS],
-    refused: [[usize; 20]; ROWS],
+    refused: [[usize; 21]; ROWS],
 }
 
 impl Seen {
@@ -89,14 +90,14 @@ fn compare(engines: [&dyn Engine; 2], seed: u64, calls: usize) -> (Seen, Option<
 const POSSIBLE: [(&[usize], &[usize]); ROWS] = [
     (&[0], &[1, 15, 16, 17, 18]),
     (&[0], &[1, 15, 17]),
-    (&[0], &[1, 2]),
-    (&[0, 1, 2, 3, 4, 5, 6, 7, 8], &[1, 2, 3, 4, 5, 6, 7, 8, 9, 10, 11, 12, 13, 14]),
+    (&[0], &[1, 2, 20]),
+    (&[0, 1, 2, 3, 4, 5, 6, 7, 8], &[1, 2, 3, 4, 5, 6, 7, 8, 9, 10, 11, 12, 13, 14, 20]),
     (&[0, 1, 2], &[1, 2, 3, 5, 7, 8, 9, 11, 12, 13]),
     (&[3], &[1, 2, 4, 5, 7, 8, 9, 12, 13]),
-    (&[4, 5, 6, 7, 8], &[1, 2, 5, 6, 7, 8, 9, 10, 12, 13, 14]),
+    (&[4, 5, 6, 7, 8], &[1, 2, 5, 6, 7, 8, 9, 10, 12, 13, 14, 20]),
     (&[0], &[1, 2, 5, 13, 15, 16, 17, 18]),
     (&[0, 1, 2], &[1, 2, 3]),
-    (&[0], &[1, 2, 3, 4, 5, 6, 19]),
+    (&[0], &[1, 2, 3, 4, 5, 6, 19, 20]),
     (&[0, 1, 2, 3, 4, 5, 6, 7, 8], &[7, 8, 9, 10, 11, 12, 13, 14]),
 ];
 
@@ -136,6 +137,31 @@ fn a_linked_list_is_its_linked_single_calls() {
     let seed = number("PAXOS_COMMIT_SEED", SEED);
     let calls = number("PAXOS_COMMIT_CALLS", if cfg!(debug_assertions) { 100_000 } else { 2_000_000 }) as usize;
     agree([&Linked, &Singles], "list and single calls", seed.wrapping_add(1), calls.min(2_000_000));
+}
+
+/// From a summary as the inboxes say it, after each call that is lent all tables whole each byte is what its inbox says.
+#[test]
+fn the_linked_summary_says_what_the_inboxes_do() {
+    let calls =
+        number("PAXOS_COMMIT_CALLS", if cfg!(debug_assertions) { 20_000 } else { 500_000 }).min(500_000) as usize;
+    let mut generator = Generator::new(number("PAXOS_COMMIT_SEED", SEED).wrapping_add(2));
+    let (mut done, mut set) = (0, 0);
+    while done < calls {
+        let mut tables = generator.start();
+        tables[S] = standing(generator.plan, &tables[I]);
+        while generator.left > 0 {
+            let Op { call, undone: false, .. } = generator.next(&tables) else { continue };
+            let before = tables[S].clone();
+            Linked.call(generator.plan, &mut tables, &mut call.answers().to_vec(), &call);
+            // Where no bit was set, now and then.
+            done += 1;
+            set += usize::from(tables[S] != before);
+            if tables[S] != before || done % 16 == 0 {
+                assert_eq!(tables[S], standing(generator.plan, &tables[I]), "after {call:?}");
+            }
+        }
+    }
+    assert!(set >= calls / 1000, "{set} of {done} calls set a bit");
 }
 
 /// Both do the same on random histories, or the smallest case found where they do not.
@@ -296,4 +322,95 @@ fn planted_fault_looks_at_the_list_first() {
     });
     assert_eq!(case.ops.len(), 1);
     assert!(mismatch.answers[0] < 7 && mismatch.answers[1] == 19);
+}
+
+/// The event is judged before the summary.
+#[test]
+fn planted_fault_looks_at_the_event_before_the_summary() {
+    let (case, mismatch) = found(|plan, tables, answers, call| match call {
+        Call::Step(_) => {
+            let mut zeroed = tables.clone();
+            zeroed[S] = vec![0; plan.summary_len()];
+            let code = Reference.call(plan, &mut zeroed, answers, call);
+            (code == 65536 + 7).then_some(code)
+        }
+        _ => None,
+    });
+    assert_eq!((case.ops.len(), mismatch.answers), (1, [65536 + 20, 65536 + 7]));
+}
+
+/// A list is judged after the summary.
+#[test]
+fn planted_fault_looks_at_the_summary_before_the_list() {
+    let (case, mismatch) = found(|plan, tables, _, call| match call {
+        Call::Run(..) if Reference.call(plan, tables, &mut [0], &Call::Step(vec![])) == 65536 + 20 => Some(20),
+        _ => None,
+    });
+    assert_eq!((case.ops.len(), mismatch.answers), (1, [19, 20]));
+    assert!(case.tables[N].is_empty() && case.tables[I].is_empty(), "{case:?}");
+}
+
+/// The 2b in the slot that an event names: its instance, ballot and value.
+fn received(tables: &Tables, event: &[u8]) -> Option<[u8; 3]> {
+    let &[4, _, high, low] = event else { return None };
+    match tables[N].chunks(8).nth(u16::from_be_bytes([high, low]).into())? {
+        &[0x3B, ins, _, bal, val, ..] => Some([ins, bal, val]),
+        _ => None,
+    }
+}
+
+/// A leader's own receipt sets the bit only where the majority is at the ballot of the message.
+#[test]
+fn planted_fault_asks_for_a_majority_at_the_same_ballot() {
+    let (case, mismatch) = found(|plan, tables, answers, call| {
+        let Call::Leader(inbox, _, event) = call else { return None };
+        let [ins, bal, val] = received(tables, event)?;
+        let summary = tables[S].clone();
+        let code = Reference.call(plan, tables, answers, call);
+        if code == 65535 && !voted(plan, part(&mut tables[I], *inbox), ins, bal, val) {
+            tables[S] = summary;
+        }
+        Some(code)
+    });
+    assert_eq!((case.ops.len(), mismatch.answers), (1, [65535; 2]));
+    // Of one acceptor every vote is a majority.
+    let Plan { rms, acceptors, .. } = case.ops[0].plan;
+    assert_eq!((rms, acceptors), (1, 2));
+    assert!(mismatch.left[0][S].len() == 1 && mismatch.left[1][S] == [0], "{case:?}");
+}
+
+/// A 2b that is in the inbox already sets no bit.
+#[test]
+fn planted_fault_leaves_a_repeated_vote() {
+    let (case, mismatch) = found(|plan, tables, answers, call| {
+        let (Call::Step(event) | Call::Leader(_, _, event)) = call else { return None };
+        received(tables, event)?;
+        let (inboxes, summary) = (tables[I].clone(), tables[S].clone());
+        let code = Reference.call(plan, tables, answers, call);
+        if tables[I] == inboxes {
+            tables[S] = summary;
+        }
+        Some(code)
+    });
+    assert_eq!((case.ops.len(), mismatch.answers), (1, [65535; 2]));
+    assert!(case.tables[N].len() == 8 && case.ops[0].plan.rms == 1, "{case:?}");
+}
+
+/// Commit by the inbox in place of the summary.
+#[test]
+fn planted_fault_decides_by_the_inbox() {
+    let (case, _) = found(|plan, tables, answers, call| match call {
+        Call::Step(event) if event.first() == Some(&7) => {
+            let mut told = tables.clone();
+            if Reference.call(plan, &mut told.clone(), &mut [], &Call::Step(vec![])) == 65536 + 7 {
+                told[S] = standing(plan, &tables[I]);
+            }
+            let code = Reference.call(plan, &mut told, answers, call);
+            tables[N] = told[N].clone();
+            Some(code)
+        }
+        _ => None,
+    });
+    let Plan { rms, acceptors, .. } = case.ops[0].plan;
+    assert_eq!((case.ops.len(), rms, acceptors), (1, 1, 1));
 }

@@ -1,6 +1,6 @@
 //! The smallest case that still shows a mismatch: a shorter history, fewer slots, a smaller plan, smaller bytes.
 
-use crate::case::{CALLS, Call, Case, Engine, I, Mismatch, N, Op, Q, Tables, W};
+use crate::case::{CALLS, Call, Case, Engine, I, Mismatch, N, Op, Q, S, Tables, W};
 use paxos_commit::{Plan, SLOT};
 
 /// So many cases are tried at most.
@@ -77,13 +77,15 @@ impl Shrinker<'_> {
         }
     }
 
-    /// A leader's own call with its part as the whole of I; a call without its damage.
+    /// A leader's own call with its parts as the whole of I and of the summary; a call without its damage.
     fn leave_damage(&mut self) {
-        if let [Op { plan, call: Call::Leader(from, to, event), .. }] = &self.case.ops[..] {
-            let to = (*to).min(self.case.tables[I].len());
+        if let [Op { plan, call: Call::Leader(inbox, own, event), .. }] = &self.case.ops[..] {
             let mut tables = self.case.tables.clone();
-            tables[I] = tables[I][(*from).min(to)..to].to_vec();
-            let call = Call::Leader(0, tables[I].len(), event.clone());
+            for (table, [from, to]) in [(I, *inbox), (S, *own)] {
+                let to = to.min(tables[table].len());
+                tables[table] = tables[table][from.min(to)..to].to_vec();
+            }
+            let call = Call::Leader([0, tables[I].len()], [0, tables[S].len()], event.clone());
             let op = Op::plain(*plan, call);
             self.take(Case { tables, ops: vec![op] });
         }
@@ -120,6 +122,10 @@ impl Shrinker<'_> {
                         for op in &mut case.ops {
                             if let Call::Read(bytes) | Call::Deliver(bytes) = &mut op.call {
                                 lowered(bytes, small);
+                            }
+                            // And the acceptor that acts.
+                            if let Some([3, who, ..]) = op.call.event_mut().map(Vec::as_mut_slice) {
+                                *who = (*who).min(small.acceptors.saturating_sub(1));
                             }
                         }
                     }
@@ -224,8 +230,8 @@ impl Shrinker<'_> {
                         if table == I {
                             let all = case.tables[I].len();
                             for op in &mut case.ops {
-                                if let Call::Leader(from, to, _) = &mut op.call {
-                                    (*from, *to) = ((*from).min(all), (*to).min(all));
+                                if let Call::Leader(inbox, ..) = &mut op.call {
+                                    *inbox = inbox.map(|at| at.min(all));
                                 }
                             }
                         }
@@ -242,7 +248,7 @@ impl Shrinker<'_> {
 
     /// Each byte of the tables and of the call 0, or one less.
     fn bytes(&mut self) {
-        for table in [W, Q, N, I] {
+        for table in [W, Q, N, I, S] {
             for at in 0..self.case.tables[table].len() {
                 for less in [|_| 0, |byte: u8| byte / 2, |byte: u8| byte - 1] {
                     let Some(&byte) = self.case.tables[table].get(at).filter(|&&byte| byte > 0) else { break };
@@ -283,7 +289,7 @@ impl Shrinker<'_> {
 /// How many equal parts a table has: I one for each leader, except where a leader's own call is lent all of it.
 fn parts(case: &Case, table: usize) -> usize {
     let op = &case.ops[0];
-    let whole = matches!(op.call, Call::Leader(0, to, _) if to == case.tables[I].len());
+    let whole = matches!(op.call, Call::Leader([0, to], ..) if to == case.tables[I].len());
     if table == N || whole || !(1..=4).contains(&op.plan.leaders) { 1 } else { op.plan.leaders.into() }
 }
 
@@ -320,7 +326,7 @@ fn reorder(bytes: &mut [u8], end: usize, order: u16) {
 
 /// The tables without what a smaller plan has no place for.
 fn cut(tables: &Tables, old: Plan, new: Plan) -> Tables {
-    let [mut states, votes, network, inboxes] = tables.clone();
+    let [mut states, votes, network, inboxes, summary] = tables.clone();
     states.truncate(new.rms.into());
     let row = 3 * usize::from(old.acceptors).max(1);
     let votes = votes
@@ -331,7 +337,12 @@ fn cut(tables: &Tables, old: Plan, new: Plan) -> Tables {
     let part = inboxes.len() / usize::from(old.leaders.max(1));
     let inboxes =
         if old.leaders == new.leaders { inboxes } else { inboxes[..part * usize::from(new.leaders)].to_vec() };
-    [states, votes, network, inboxes]
+    let summary = summary
+        .chunks(usize::from(old.rms).max(1))
+        .take(new.leaders.into())
+        .flat_map(|part| part.iter().copied().take(new.rms.into()))
+        .collect();
+    [states, votes, network, inboxes, summary]
 }
 
 /// The case in words and bytes, for a report.
@@ -343,7 +354,7 @@ pub fn told(case: &Case, mismatch: &Mismatch) -> String {
         _ => hex(bytes),
     };
     let mut out = String::new();
-    let names = ["W", "Q", "N", "I"];
+    let names = ["W", "Q", "N", "I", "summary"];
     for (index, name) in names.iter().enumerate() {
         let _ = writeln!(out, "  {name} ({} bytes): {}", case.tables[index].len(), table(index, &case.tables[index]));
     }
@@ -359,7 +370,10 @@ pub fn told(case: &Case, mismatch: &Mismatch) -> String {
                 let events = events.chunks(4).map(hex).collect::<Vec<_>>().join(" | ");
                 writeln!(out, ", events {events}, lent answers {}", hex(answers))
             }
-            Call::Leader(from, to, event) => writeln!(out, ", bytes {from} to {to} of I, event {}", hex(event)),
+            Call::Leader([from, to], [first, end], event) => {
+                let event = hex(event);
+                writeln!(out, ", bytes {from} to {to} of I and {first} to {end} of the summary, event {event}")
+            }
             call => writeln!(out, ", event {}", hex(call.event().map_or(&[], Vec::as_slice))),
         };
         if op.damages() {

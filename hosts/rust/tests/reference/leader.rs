@@ -1,11 +1,17 @@
 //! A leader's step: kinds 4 to 8.
 
 use super::message::{ABORTED, MAP_1B, MAP_1B_VOTE, MAP_2A, MAP_2B, Message, PREPARED, Rules, Slot, Vote};
-use super::slots::{MOST, Row, fits, words};
+use super::slots::{Row, fits, words};
 use super::{Event, Plan, Sent, refusal};
 
-/// A leader's step by itself, on one inbox and N.
-pub fn leader_step(plan: Plan, inbox: &mut [u8], network: &mut [u8], event: &[u8]) -> Result<Sent, u8> {
+/// A leader's step by itself, on one inbox, its part of the summary, and N.
+pub fn leader_step(
+    plan: Plan,
+    inbox: &mut [u8],
+    summary: &mut [u8],
+    network: &mut [u8],
+    event: &[u8],
+) -> Result<Sent, u8> {
     plan.check()?;
     if !fits(inbox.len()) || !fits(network.len()) {
         return Err(refusal::LENGTH);
@@ -13,10 +19,23 @@ pub fn leader_step(plan: Plan, inbox: &mut [u8], network: &mut [u8], event: &[u8
     let rules = Rules::new(plan);
     let mut network = Row::judge(&rules, network).ok_or(refusal::NETWORK)?;
     let mut inbox = Row::judge(&rules, inbox).ok_or(refusal::INBOXES)?;
-    step(plan, &mut inbox, &mut network, Event::read(plan, event, 4, 8)?)
+    judge(summary, plan.rms.into())?;
+    step(plan, &mut inbox, summary, &mut network, Event::read(plan, event, 4, 8)?)
 }
 
-pub(crate) fn step(plan: Plan, inbox: &mut Row, network: &mut Row, event: Event) -> Result<Sent, u8> {
+/// Judges a summary that should have so many bytes.
+pub(crate) fn judge(summary: &[u8], length: usize) -> Result<(), u8> {
+    let any = summary.iter().fold(0, |any, standing| any | standing);
+    if summary.len() == length && any <= PREPARED | ABORTED { Ok(()) } else { Err(refusal::SUMMARY) }
+}
+
+pub(crate) fn step(
+    plan: Plan,
+    inbox: &mut Row,
+    summary: &mut [u8],
+    network: &mut Row,
+    event: Event,
+) -> Result<Sent, u8> {
     let Event { kind, high: ins, low: bal, .. } = event;
     if kind == 4 {
         let message = network.message(event.slot()).ok_or(refusal::SLOT)?;
@@ -26,6 +45,13 @@ pub(crate) fn step(plan: Plan, inbox: &mut Row, network: &mut Row, event: Event)
         let slot = message.slot(plan);
         let at = inbox.place(&slot).ok_or(refusal::INBOX_FULL)?;
         inbox.put(at, slot);
+        if let Message::Phase2b { ins, val, .. } = message {
+            // A value is its own bit.
+            let standing = &mut summary[usize::from(ins)];
+            if *standing & val == 0 && decided(plan, inbox.used(), ins, val) {
+                *standing |= val;
+            }
+        }
         return Ok(Sent::Quiet);
     }
     if (kind == 5 || kind == 6) && (bal == 0 || (bal - 1) % plan.leaders != event.who) {
@@ -37,8 +63,8 @@ pub(crate) fn step(plan: Plan, inbox: &mut Row, network: &mut Row, event: Event)
             let val = proposal(plan, inbox.used(), ins, bal).ok_or(refusal::GUARD)?;
             Message::Phase2a { ins, bal, val }
         }
-        7 if all_prepared(plan, inbox.used()) => Message::Decision { val: PREPARED },
-        8 if any_aborted(plan, inbox.used()) => Message::Decision { val: ABORTED },
+        7 if all_prepared(summary) => Message::Decision { val: PREPARED },
+        8 if any_aborted(summary) => Message::Decision { val: ABORTED },
         _ => return Err(refusal::GUARD),
     };
     let slot = message.slot(plan);
@@ -96,38 +122,32 @@ impl Promises {
     }
 }
 
-/// Decided(i, prepared) for all i.
-fn all_prepared(plan: Plan, inbox: &[Slot]) -> bool {
-    decided(plan, inbox, PREPARED).count_ones() == u32::from(plan.rms)
+/// Whether each instance stands as prepared.
+fn all_prepared(summary: &[u8]) -> bool {
+    summary.iter().fold(PREPARED, |all, standing| all & standing) != 0
 }
 
-/// Decided(i, aborted) for some i.
-fn any_aborted(plan: Plan, inbox: &[Slot]) -> bool {
-    decided(plan, inbox, ABORTED) != 0
+/// Whether some instance stands as aborted.
+fn any_aborted(summary: &[u8]) -> bool {
+    summary.iter().fold(0, |any, standing| any | standing) & ABORTED != 0
 }
 
-/// The instances i with Decided(i, val), bit i for instance i.
-fn decided(plan: Plan, inbox: &[Slot], val: u8) -> u16 {
-    if 2 * inbox.len() <= usize::from(plan.acceptors) {
-        return 0;
-    }
-    // First the 2b messages of this value, gathered without a branch: the
-    // kinds may alternate in any way. Then their acceptors by instance and
-    // ballot.
-    let mask = u64::from_le_bytes([0xFF, 0, 0, 0, 0xFF, 0, 0, 0]);
-    let wanted = u64::from_le_bytes([MAP_2B, 0, 0, 0, val, 0, 0, 0]);
-    let mut votes = [0u32; MOST];
-    let count = words(inbox).fold(0, |count, word| {
-        votes[count % MOST] = word as u32;
-        count + usize::from(word & mask == wanted)
-    });
-    let mut voters = [[0u8; 256]; 16];
-    let mut decided = 0u16;
-    for vote in &votes[..count] {
-        let [_, ins, acc, bal] = vote.to_le_bytes();
-        let voters = &mut voters[usize::from(ins % 16)][usize::from(bal)];
-        *voters |= 1 << (acc & 7);
-        decided |= u16::from(plan.majority(*voters)) << (ins % 16);
-    }
-    decided
+/// Decided(ins, val): a majority's 2b messages at some ballot.
+fn decided(plan: Plan, inbox: &[Slot], ins: u8, val: u8) -> bool {
+    let mask = u64::from_le_bytes([0xFF, 0xFF, 0, 0, 0xFF, 0, 0, 0]);
+    let sought = u64::from_le_bytes([MAP_2B, ins, 0, 0, val, 0, 0, 0]);
+    // Their acceptors by ballot.
+    let mut voters = [0u8; 256];
+    // Sixteen slots are looked at together, so that it vectorises, and singly
+    // where one of them may be such a 2b.
+    let own = |word: u64| word & mask == sought;
+    let mut blocks = inbox.chunks(16).filter(|block| words(block).fold(false, |any, word| any | own(word)));
+    blocks.any(|block| {
+        words(block).filter(|&word| own(word)).any(|word| {
+            let [_, _, acc, bal, ..] = word.to_le_bytes();
+            let voters = &mut voters[usize::from(bal)];
+            *voters |= 1 << (acc & 7);
+            plan.majority(*voters)
+        })
+    })
 }

@@ -1,20 +1,24 @@
-//! Document 01 in Rust by hand, with the order number, the list, the lengths
-//! and the owners of ballots of document 02, Papers 1 to 4, for the tests and
-//! the benchmark of the crate above; it is no part of it.
+//! Document 01 in Rust by hand, with the order number, the list, the lengths,
+//! the owners of ballots and the summary of document 02, Papers 1 to 5, for the
+//! tests and the benchmark of the crate above; it is no part of it.
 //! Document 01's part was written from the document alone, by someone who had
 //! not seen the proved source; the delivery and the ending, which the document
 //! has not as calls, from their description (see `host`). The order number was
 //! added from Paper 1's text, by someone who had seen the proved byte form, and
 //! the list from Paper 2's, without sight of the proved list call; Phase2a got
 //! its blocks of slots then. Lengths are counted and ballots owned as the text
-//! of Papers 3 and 4 says. The tests use its public functions only.
+//! of Papers 3 and 4 says. The summary is from Paper 5's text and the readings
+//! of its open points, without sight of the proved one. The tests use its
+//! public functions only.
 //!
-//! A record is four byte tables, lent to every call:
+//! A record is five byte tables, lent to every call:
 //!
 //! * `states` (W): a byte for each weight;
 //! * `votes` (Q): mbal, bal and val for each instance and acceptor;
 //! * `network` (N): slots of eight bytes, the used ones first;
-//! * `inboxes` (I): one such row of slots for each leader.
+//! * `inboxes` (I): one such row of slots for each leader;
+//! * `summary`: a byte for each leader and instance, bit 0 when that inbox
+//!   decides prepared, bit 1 when it decides aborted.
 //!
 //! Tables and events may be any bytes of any length. A call that refuses
 //! returns the number of its refusal (see [`refusal`]) and changes no byte.
@@ -38,7 +42,8 @@ pub use record::{event, open, run};
 pub use rehearsal::{rehearse, rehearse_by_calls};
 pub use weight::{State, rm_step};
 
-/// Numbers of the refusals; of several that apply, the lowest is returned.
+/// Numbers of the refusals; of several that apply, the first in the order 1 to
+/// 6, 19, 20, 7 to 18 is returned.
 pub mod refusal {
     /// The plan is out of range.
     pub const PLAN: u8 = 1;
@@ -78,6 +83,8 @@ pub mod refusal {
     pub const ORDER: u8 = 18;
     /// A list that isn't whole events, or answers that aren't one each.
     pub const LIST: u8 = 19;
+    /// A summary of another length, or a byte of it above 3.
+    pub const SUMMARY: u8 = 20;
 }
 
 /// The parties of a transaction.

@@ -10,10 +10,11 @@ pub fn rehearse(input: &[u8]) -> String {
     let Some((plan, events)) = plan(input) else {
         return "1\n".into();
     };
-    let [mut states, mut votes, mut network, mut inboxes] = tables(plan);
+    let [mut states, mut votes, mut network, mut inboxes, mut summary] = tables(plan);
     let (whole, cut) = events.split_at(events.len().min(4 * EVENTS) / 4 * 4);
     let mut answers = vec![0; whole.len() / 4];
-    if let Err(number) = run(plan, &mut states, &mut votes, &mut network, &mut inboxes, whole, &mut answers) {
+    let done = run(plan, &mut states, &mut votes, &mut network, &mut inboxes, &mut summary, whole, &mut answers);
+    if let Err(number) = done {
         return format!("{number}\n");
     }
     if !cut.is_empty() && answers.len() < EVENTS {
@@ -27,10 +28,10 @@ pub fn rehearse_by_calls(input: &[u8]) -> String {
     let Some((plan, events)) = plan(input) else {
         return "1\n".into();
     };
-    let [mut states, mut votes, mut network, mut inboxes] = tables(plan);
+    let [mut states, mut votes, mut network, mut inboxes, mut summary] = tables(plan);
     let mut answers = Vec::with_capacity(EVENTS.min(events.len().div_ceil(4)));
     for bytes in events.chunks(4).take(EVENTS) {
-        let sent = event(plan, &mut states, &mut votes, &mut network, &mut inboxes, bytes);
+        let sent = event(plan, &mut states, &mut votes, &mut network, &mut inboxes, &mut summary, bytes);
         answers.push(sent.err().unwrap_or(0));
     }
     lines(answers.into_iter(), &states)
@@ -42,10 +43,9 @@ fn plan(input: &[u8]) -> Option<(Plan, &[u8])> {
     plan.check().is_ok().then_some((plan, events))
 }
 
-fn tables(plan: Plan) -> [Vec<u8>; 4] {
-    let slots = 8 * MOST;
-    [usize::from(plan.rms), acceptor::length(plan), slots, slots * usize::from(plan.leaders)]
-        .map(|length| vec![0; length])
+fn tables(plan: Plan) -> [Vec<u8>; 5] {
+    let (rms, leaders, slots) = (usize::from(plan.rms), usize::from(plan.leaders), 8 * MOST);
+    [rms, acceptor::length(plan), slots, slots * leaders, rms * leaders].map(|length| vec![0; length])
 }
 
 /// A line for each event, and the word.
