@@ -2,6 +2,8 @@
 --     small-ballot     a slot's ballot is a byte
 --     vote-other       a slot with no 2b of the instance and value
 --     vote-taken       one that counts: its acceptor joins
+--     begins-word      by its first word, whether a slot begins as a 2b of the instance does
+--     vote-none        one that does not
 -- Assumes nothing.
 use Prim.Native.Nat.{ℕ, _+_, _/_, _%_, _<_}
 use mathlib.Core.Bool.{Bool, true, false, _&&_, cond}
@@ -10,14 +12,15 @@ use mathlib.Core.Path.{_≡_, refl, sym, _∙_, ap, ap₂}
 use native.Mathlib.Omega.{arith}
 use lib.Dec.{eqb}
 use lib.ListN.{getD, set}
-use borrow.Author.Tests.{lt-ltb, eq-eqb, ne-eqb, eqb-true}
+use borrow.Author.Tests.{lt-ltb, eq-eqb, ne-eqb, eqb-true, eqb-false}
 use Rattle.message.specs.declared.Plan.{Plan}
 use Rattle.message.specs.Form.{map2b}
-use Rattle.slots.specs.Table.Words.{Word}
+use Rattle.slots.specs.Table.Words.{Word, WordFrom}
 use Rattle.quorum.specs.Quorum.{isMajority}
 use Rattle.quorum.specs.Mask.{join, ones}
 use Rattle.inbox.specs.Inbox.Slots.{messageAt, slotCases}
 use Rattle.inbox.specs.Inbox.Votes.{tally, joined, tallied, voteStep, smallBallot}
+use Rattle.decided.specs.Pass.{begins2b}
 
 module _ (t : List ℕ) (at : ℕ) where
   abbrev map : ℕ
@@ -83,3 +86,27 @@ module _ (t : List ℕ) (at : ℕ) where
               ap₂ _&&_ (eq-eqb map map2b (sym (of-x .digit0) ∙ ap (λ (w : ℕ). w % 0x100) same ∙ of-y .digit0))
               (ap₂ _&&_ (eq-eqb (byte 1) i (sym (of-x .digit1) ∙ ap (λ (w : ℕ). w / 0x100 % 0x100) same ∙ of-y .digit1))
               (eq-eqb (byte 4) v (sym (of-x .digit2) ∙ ap (λ (w : ℕ). w / 0x10000 % 0x100) same ∙ of-y .digit2)))
+
+    pub vote-none : begins2b i t at ≡ false → tally masks false ≡ voteStep p i v masks (messageAt t at)
+    unfolding counts begins2b
+    vote-none none =
+        sym (ap (λ (b : Bool). cond b (tallied p masks (byte 2) (byte 3)) (tally masks false)) (go (eqb map map2b) (eqb (byte 1) i) none))
+        ∙ vote-step
+      where
+        go : (a b : Bool) → (a && b) ≡ false → (a && (b && eqb (byte 4) v)) ≡ false
+        go true b e = ap (λ (s : Bool). s && eqb (byte 4) v) e
+        go false b e = refl
+
+  -- `w` is the slot's first word, `y` that of a 2b of the instance without its other bytes
+  module _ (i w y : ℕ) (of-w : WordFrom t at w) (of-y : Word map2b i 0 0 y) where
+    pub begins-word : eqb (w % 0x10000) y ≡ begins2b i t at
+    unfolding begins2b
+    begins-word = go (eqb map map2b) refl (eqb (byte 1) i) refl
+      where
+        go : (a : Bool) → eqb map map2b ≡ a → (b : Bool) → eqb (byte 1) i ≡ b → eqb (w % 0x10000) y ≡ (a && b)
+        go true e true f =
+            eq-eqb (w % 0x10000) y (omega (arith, of-w .sum, of-w .digit0, of-w .digit1, of-y .sum, eqb-true map map2b e, eqb-true (byte 1) i f))
+        go true e false f =
+            ne-eqb (w % 0x10000) y (λ same. eqb-false (byte 1) i f (omega (arith, same, of-w .sum, of-w .digit0, of-w .digit1, of-y .sum, of-y .digit0, of-y .digit1)))
+        go false e b f =
+            ne-eqb (w % 0x10000) y (λ same. eqb-false map map2b e (omega (arith, same, of-w .sum, of-w .digit0, of-w .digit1, of-y .sum, of-y .digit0, of-y .digit1)))

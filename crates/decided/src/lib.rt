@@ -1,20 +1,23 @@
 // Decided for one instance and value, as a leader reads it from its inbox: one pass over the slots before the edge.
 //
-//     vote_step       the acceptor of a 2b joins the set of its ballot, and whether that is a majority
-//     gather_votes    the pass, up to the first majority
-//     is_decided      Decided(ins, value)
+//     vote_step             the acceptor of a 2b joins the set of its ballot, and whether that is a majority
+//     begins_2b, any_2b     whether a slot, or one of a block, begins as a 2b of the instance does
+//     gather_slots          slot by slot, up to the first majority
+//     gather_votes          the pass: blocks with no 2b of the instance are passed at once
+//     is_decided            Decided(ins, value)
 //
-// What each of them means stands in the specs/ of `inbox`. No public function has a `requires`, and none looks past the inbox.
+// What is gathered stands in the specs/ of `inbox`, blocks in specs/. No public function has a `requires`, and none looks past the inbox.
 ghost use mathlib.Core.Bool.{true, _&&_};
 ghost use mathlib.Core.Path.{_≡_};
-ghost use Prim.Native.Nat.{_+_, _≤_};
+ghost use Prim.Native.Nat.{_+_, _*_, _/_, _≤_};
 ghost use lib.ListN.{length, replicate};
 ghost use Rattle.message.specs.Plan.{isPlan};
 ghost use Rattle.slots.specs.Table.{slotSize};
 ghost use Rattle.slots.specs.Table.Scan.{edge, peekMessages};
-ghost use Rattle.inbox.specs.Inbox.{decided};
-ghost use Rattle.inbox.specs.Inbox.Slots.{messageAt};
-ghost use Rattle.inbox.specs.Inbox.Votes.{tally, voteStep};
+ghost use Rattle.inbox.specs.Inbox.{forSome, decided};
+ghost use Rattle.inbox.specs.Inbox.Slots.{messageAt, ahead};
+ghost use Rattle.inbox.specs.Inbox.Votes.{tally, voteStep, Counts};
+ghost use Rattle.decided.specs.Pass.{blockSlots, begins2b, Counted};
 use message::ACC;
 use message::BAL_2B;
 use message::INS;
@@ -39,7 +42,65 @@ fn vote_step(plan: Plan, inbox: &[u8], at: usize, ins: u8, value: u8, masks: &mu
     quorum::is_majority(plan.acceptors, mask)
 }
 
-// One pass over the used slots, which ends at the first majority.
+// So many slots are looked at together without a branch: a block. The compiler takes sixteen of them in vector steps and the last one by
+// itself, since it does not load past it.
+const BLOCK_SLOTS: usize = 17;
+
+// A word divided by this leaves its first two bytes: of a 2b map and instance.
+const TWO_BYTES: u32 = 0x1_0000;
+
+// Whether a slot begins as a 2b of the instance does.
+fn begins_2b(inbox: &[u8], at: usize, ins: u8) -> bool
+    requires { ⌜ at + slotSize ≤ length (now inbox) ⌝ }
+    ensures { λ r. ⌜ r ≡ begins2b ins (now (inbox .entry)) at ⌝ }
+{
+    let word = slots::word(
+        inbox[at],
+        inbox[at + INS],
+        inbox[at + ACC],
+        inbox[at + BAL_2B],
+    );
+    word % TWO_BYTES == slots::word(MAP_2B, ins, 0, 0)
+}
+
+// Whether a slot of a block does.
+fn any_2b(inbox: &[u8], place: usize, ins: u8) -> bool
+    requires { ⌜ place + blockSlots ≤ length (now inbox) / slotSize ⌝ }
+    ensures { λ r. ⌜ r ≡ forSome blockSlots (λ j. begins2b ins (now (inbox .entry)) ((place + j) * slotSize)) ⌝ }
+{
+    let mut any = false;
+    let mut i = 0;
+    while i < BLOCK_SLOTS {
+        any = any | begins_2b(inbox, (place + i) * SLOT_SIZE, ins);
+        i += 1;
+    }
+    any
+}
+
+// The slots from one place to another, up to the first majority.
+fn gather_slots(
+    plan: Plan,
+    inbox: &[u8],
+    from: usize,
+    to: usize,
+    ins: u8,
+    value: u8,
+    masks: &mut [u8; 256],
+) -> bool
+    requires { ⌜ (isPlan plan ≡ true) × (from ≤ to) × (to ≤ edge (now inbox)) × Counts plan ins value (peekMessages (now inbox)) (now masks) (ahead (now inbox) from) ⌝ }
+    ensures { λ r. ⌜ Counted plan ins value (peekMessages (now (inbox .entry))) (now (masks .exit)) (ahead (now (inbox .entry)) to) r ⌝ }
+{
+    let mut place = from;
+    while place < to {
+        if vote_step(plan, inbox, place * SLOT_SIZE, ins, value, masks) {
+            return true;
+        }
+        place += 1;
+    }
+    false
+}
+
+// One pass over the used slots, which ends at the first majority: past blocks with no 2b of the instance, else slot by slot.
 fn gather_votes(
     plan: Plan,
     inbox: &[u8],
@@ -52,13 +113,16 @@ fn gather_votes(
     ensures { λ r. ⌜ r ≡ decided plan (peekMessages (now (inbox .entry))) ins value ⌝ }
 {
     let mut place = 0;
-    while place < used {
-        if vote_step(plan, inbox, place * SLOT_SIZE, ins, value, masks) {
-            return true;
+    while BLOCK_SLOTS <= used - place {
+        let end = place + BLOCK_SLOTS;
+        if any_2b(inbox, place, ins) {
+            if gather_slots(plan, inbox, place, end, ins, value, masks) {
+                return true;
+            }
         }
-        place += 1;
+        place = end;
     }
-    false
+    gather_slots(plan, inbox, place, used, ins, value, masks)
 }
 
 // Whether Decided(ins, value), in one pass over the inbox; with a plan out of range nothing is. Without a message no set is made.

@@ -1,11 +1,15 @@
 -- `decided::gather_votes` meets its contract: what was gathered and what is ahead make up what all messages say. Assumes nothing.
-use Prim.Native.Nat.{_-_, _≤_}
+use Prim.Native.Nat.{_+_, _-_, _≤_}
+use mathlib.Core.Path.{sym, _∙_}
+use native.Mathlib.Nat.{le-of-eq}
 use native.Mathlib.Omega.{arith}
 use borrow.Author.Needs.{needs}
 use Rattle.slots.specs.Table.Scan.{peekMessages}
+use Rattle.inbox.specs.Inbox.Quantifiers.{forSome-none}
 use Rattle.inbox.specs.Inbox.Slots.{ahead, used-within}
 use Rattle.inbox.specs.Inbox.Votes.{Counts, counts-start}
-use Rattle.decided.proofs.Deciding.{turn-next, turn-decides, turns-end}
+use Rattle.decided.specs.Pass.{blockSlots}
+use Rattle.decided.proofs.Deciding.{block-next, counted-end}
 use Rattle.decided.proofs.gather_votes.Statement.{statement}
 use Rattle.decided.proofs.gather_votes.Tie as tie
 
@@ -16,9 +20,9 @@ Inv-loop plan inbox used ins value masks₀ place₀ masks place =
 abbrev μ-loop : tie.MeasureT-loop
 μ-loop plan inbox used ins value masks₀ place₀ masks place = used - place
 
--- the way back: from a slot's vote to the turn's test, and from the loop to the start
-abbrev at-turn : tie.After-vote-step Inv-loop μ-loop → tie.In-loop Inv-loop μ-loop
-at-turn c = c .before .before
+-- the way back: from a block's answer to the turn's test, and from the loop to the start
+abbrev at-block : tie.After-any-2b Inv-loop μ-loop → tie.In-loop Inv-loop μ-loop
+at-block c = c .before
 
 abbrev at-known : tie.At-loop Inv-loop μ-loop → tie.After-shared-slice-known Inv-loop μ-loop
 at-known c = c .before
@@ -29,42 +33,60 @@ at-start c = at-known c .before
 loop-holds : tie.Need-loop-holds Inv-loop μ-loop
 loop-holds c = (search needs, rw (c .before .pre .2) (counts-start _ _ _ _))
 
-mul-vote-step : tie.Need-mul-vote-step Inv-loop μ-loop
-mul-vote-step c = omega (arith, used-within _ _ (at-start (c .before) .pre .1))
+sub-loop : tie.Need-sub-loop Inv-loop μ-loop
+sub-loop c = search needs
 
-vote-step-requires : tie.Need-vote-step-requires Inv-loop μ-loop
-vote-step-requires c κs =
-    let at-test = c .before in
-    omega (arith, at-test .loop-test .taken, used-within _ _ (at-start (at-test .before) .pre .1))
+add-end : tie.Need-add-end Inv-loop μ-loop
+add-end c = search needs
+
+any-2b-requires : tie.Need-any-2b-requires Inv-loop μ-loop
+any-2b-requires c κs =
+    let start = at-start (c .before) in
+    omega (arith, c .loop-test .taken, used-within _ _ (start .pre .1))
+
+gather-slots-requires : tie.Need-gather-slots-requires Inv-loop μ-loop
+gather-slots-requires c κs =
+    let at-test = at-block (c .before .before) in
+    let at-loop = at-test .before in
+    let start = at-start at-loop in
+    (start .pre .0, omega arith, rw (← start .pre .1) (omega (arith, at-loop .loop .inv .0, at-test .loop-test .taken)), at-loop .loop .inv .1)
 
 returns : tie.Need-returns Inv-loop μ-loop
-returns c =
-    let at-vote = c .before in
-    let at-test = at-turn at-vote in
-    let at-loop = at-test .before in
-    turn-decides _ _ _ _ _ (at-start at-loop .pre .1) _ _ (at-loop .loop .inv .1) (at-start at-loop .pre .0) (at-test .loop-test .taken)
-    (λ j. at-known at-loop .shared-slice-known .given j .fits) _ _ (at-vote .vote-step .ensures) (c .if1 .taken)
-
-add-place : tie.Need-add-place Inv-loop μ-loop
-add-place c = search needs
+returns c = sym (c .before .gather-slots .ensures .decides (c .if2 .taken))
 
 loop-less : tie.Need-loop-less Inv-loop μ-loop
 loop-less c = search needs
 
 loop-again : tie.Need-loop-again Inv-loop μ-loop
 loop-again c =
-    let at-vote = c .before in
-    let at-test = at-turn at-vote in
-    let at-loop = at-test .before in (
-      search needs,
-      turn-next _ _ _ _ _ (at-start at-loop .pre .1) _ _ (at-loop .loop .inv .1) (at-start at-loop .pre .0) (at-test .loop-test .taken)
-          (λ j. at-known at-loop .shared-slice-known .given j .fits) _ _ (at-vote .vote-step .ensures) (c .if1 .left),
+    let at-test = at-block (c .before .before .before .before) in
+    (omega (arith, at-test .before .loop .inv .0, at-test .loop-test .taken), c .before .gather-slots .ensures .further (c .if2 .left))
+
+loop-less-2 : tie.Need-loop-less-2 Inv-loop μ-loop
+loop-less-2 c = search needs
+
+loop-again-2 : tie.Need-loop-again-2 Inv-loop μ-loop
+loop-again-2 c =
+    let at-any = c .before in
+    let at-test = at-block at-any in
+    let at-loop = at-test .before in
+    let start = at-start at-loop in
+    let whole : at-loop .loop .place + blockSlots ≤ start .args .used = omega (arith, at-loop .loop .inv .0, at-test .loop-test .taken) in (
+      whole,
+      block-next _ _ _ _ _ (start .pre .1) (start .pre .0) (λ j. at-known at-loop .shared-slice-known .given j .fits) _ _ (at-loop .loop .inv .1)
+          blockSlots whole (forSome-none _ blockSlots (sym (at-any .any-2b .ensures) ∙ c .if1 .left)),
     )
+
+gather-slots-requires-2 : tie.Need-gather-slots-requires-2 Inv-loop μ-loop
+gather-slots-requires-2 c κs =
+    let at-loop = c .before .before in
+    let start = at-start at-loop in
+    (start .pre .0, at-loop .loop .inv .0, le-of-eq (start .pre .1), at-loop .loop .inv .1)
 
 returns-2 : tie.Need-returns-2 Inv-loop μ-loop
 returns-2 c =
-    let at-loop = c .before in
-    turns-end _ _ _ _ _ (at-start at-loop .pre .1) _ _ (at-loop .loop .inv .1) (c .loop-test .left)
+    let start = at-start (c .before .before .before) in
+    counted-end _ _ _ _ _ (start .pre .1) _ _ (c .gather-slots2 .ensures)
 
 pub gather-votes-spec : {M : Type 1} → statement M
 gather-votes-spec =
@@ -73,10 +95,14 @@ gather-votes-spec =
     Inv-loop
     μ-loop
     loop-holds
-    mul-vote-step
-    vote-step-requires
+    sub-loop
+    add-end
+    any-2b-requires
+    gather-slots-requires
     returns
-    add-place
     loop-less
     loop-again
+    loop-less-2
+    loop-again-2
+    gather-slots-requires-2
     returns-2)

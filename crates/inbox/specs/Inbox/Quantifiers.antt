@@ -1,12 +1,14 @@
 -- For all, and for some, of the numbers below a count: the tests as propositions.
---     forAll-all, all-forAll, forAll-fails, forSome-some, some-forSome
+--     forAll-all, all-forAll, forAll-fails, forSome-some, some-forSome, forSome-none
+--     forSome-zero, forSome-next     no number, and one more
 -- Assumes nothing.
-use Prim.Native.Nat.{ℕ, zero, suc, _<_}
-use mathlib.Core.Bool.{Bool, true, false, _&&_, _||_, false≢true}
+use Prim.Native.Nat.{ℕ, zero, suc, _+_, _<_}
+use mathlib.Core.Bool.{Bool, true, false, _&&_, _||_, or-comm, false≢true}
 use mathlib.Core.Logic.{_⊎_, inl, inr}
 use mathlib.Core.Path.{_≡_, refl, sym, _∙_, ap}
 use native.Mathlib.Decide.{ℕ-discrete}
 use native.Mathlib.Nat.{not-suc-le-zero, le-refl}
+use native.Mathlib.Numerals.{add-one}
 use native.Mathlib.Omega.{arith}
 use Rattle.message.specs.Outcome.Laws.{both}
 use Rattle.inbox.specs.Inbox.{forAll, forSome}
@@ -46,6 +48,21 @@ module _ (test : ℕ → Bool) where
       go true e s rest = rw e
       go false e (inl s) rest = absurd (false≢true (sym e ∙ ap test (sym s) ∙ h))
       go false e (inr l) rest = rw e (rest l h)
+
+  pub forSome-none : (n : ℕ) → forSome n test ≡ false → (i : ℕ) → i < n → test i ≡ false
+  forSome-none n h i k = go (test i) refl
+    where
+      go : (t : Bool) → test i ≡ t → t ≡ false
+      go true e = sym (some-forSome n i k e) ∙ h
+      go false e = refl
+
+  pub forSome-zero : forSome 0 test ≡ false
+  unfolding forSome
+  forSome-zero = refl
+
+  pub forSome-next : (n : ℕ) → forSome (n + 1) test ≡ (forSome n test || test n)
+  unfolding forSome
+  forSome-next n = rw (add-one n) (or-comm (test n) (forSome n test))
 
   pub forAll-fails : (n : ℕ) → forAll n test ≡ false → (i : ℕ) × (i < n) × (test i ≡ false)
   unfolding forAll

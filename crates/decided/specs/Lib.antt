@@ -1,0 +1,3 @@
+-- How the pass for Decided looks at slots.
+--     Pass    blocks of slots, and what some slots further come to
+pub mod Pass
