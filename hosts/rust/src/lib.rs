@@ -11,7 +11,7 @@
 //! | `deliver` | `libhost_deliver.a` | [`deliver`] |
 //! | `rm` | `libhost_rm.a` | [`rm_step`] |
 //! | `acceptor` | `libhost_acceptor.a` | [`acceptor_step`] |
-//! | `leader` | `libhost_leader.a` | [`leader_step`] |
+//! | `leader` | `libhost_leader.a` | [`leader_step`], and [`Leader`] over it; with `deliver`, [`Leader::deliver`] |
 //! | `record` | `libhost_record.a` | [`open`], [`step`], [`ending`], and [`Record`] over them |
 //! | `batch` | `libhost_batch.a` | [`run`]; with `record`, [`Record::run`] over it |
 //!
@@ -21,6 +21,7 @@
 //! Document 01's example, an order of one weight that ends committed:
 //!
 //! ```
+//! # #[cfg(feature = "record")] {
 //! use paxos_commit::{Answer, Ending, Event, Plan, Record, Refusal};
 //!
 //! let plan = Plan { rms: 1, acceptors: 1, leaders: 1, order: 0 };
@@ -35,7 +36,8 @@
 //!
 //! // Whatever the network brings:
 //! assert_eq!(record.step_bytes(b"anything"), Err(Refusal::BadEvent));
-//! # Ok::<(), Refusal>(())
+//! # }
+//! # Ok::<(), paxos_commit::Refusal>(())
 //! ```
 //!
 //! Calls keep no state between them and may run on several threads at once, each on its own tables; `&mut` sees to that
@@ -49,6 +51,8 @@ mod batch;
 mod event;
 #[allow(unsafe_code)]
 mod ffi;
+#[cfg(feature = "leader")]
+mod leader;
 mod message;
 mod plan;
 #[cfg(feature = "record")]
@@ -60,6 +64,8 @@ pub use answer::Answer;
 #[cfg(feature = "batch")]
 pub use batch::run;
 pub use event::Event;
+#[cfg(feature = "leader")]
+pub use leader::Leader;
 #[cfg(feature = "deliver")]
 pub use message::deliver;
 pub use message::{Decision, Fields, Message, Value, Vote, Written};

@@ -1,7 +1,7 @@
 //! The lists of happenings of the crate `apart` on the linked calls: the one that ends committed (Examples.antt), and
 //! for each hypothesis those that fail it alone and break the claim (Needed.antt; here too for a summary that says more
 //! than its inbox); with three more, for a leader's inbox that is lost, for a summary that is lost, and for tables that
-//! are made longer.
+//! are made longer. What happens to a leader happens to the crate's type `Leader` too, and both come out alike.
 
 use paxos_commit::*;
 use std::collections::HashMap;
@@ -80,7 +80,16 @@ impl System {
     fn happen(&mut self, happening: &Happening) -> Result<Answer, Refusal> {
         let (Happening::Call(role, k, _) | Happening::Delivery(role, k, _) | Happening::Restart(role, k, _)) =
             happening;
-        let host = self.hosts.get_mut(&(*role, *k)).unwrap();
+        let by_type = (*role == Leader).then(|| by_type(self.plan, self.hosts[&(Leader, *k)].clone(), happening));
+        let answer = self.happen_to(*role, *k, happening);
+        if let Some(by_type) = by_type {
+            assert_eq!(by_type, (answer, self.hosts[&(Leader, *k)].clone()), "{happening:?}");
+        }
+        answer
+    }
+
+    fn happen_to(&mut self, role: Role, k: u8, happening: &Happening) -> Result<Answer, Refusal> {
+        let host = self.hosts.get_mut(&(role, k)).unwrap();
         match happening {
             Happening::Call(role, _, event) => {
                 let Host { table, network, summary } = host;
@@ -106,6 +115,22 @@ impl System {
     fn row(&self) -> Vec<u8> {
         (0..self.plan.rms).map(|i| self.hosts[&(Rm, i)].table[usize::from(i)]).collect()
     }
+}
+
+/// What happens to a leader, by the type: the answer and the host afterwards.
+fn by_type(plan: Plan, host: Host, happening: &Happening) -> (Result<Answer, Refusal>, Host) {
+    let of = |host: Host| paxos_commit::Leader::of(plan, host.table, host.summary, host.network);
+    let mut leader = of(host);
+    let answer = match happening {
+        Happening::Call(_, _, event) => leader.step_bytes(event),
+        Happening::Delivery(_, _, bytes) => leader.deliver(bytes).map(Answer::Slot),
+        Happening::Restart(_, _, new) => {
+            leader = of(new.clone());
+            Ok(Answer::Quiet)
+        }
+    };
+    let [table, summary, network] = leader.into_tables();
+    (answer, Host { table, network, summary })
 }
 
 /// Host k makes an event with its own number.
