@@ -20,6 +20,7 @@ use change::Verdict;
 use message::Message;
 use message::Plan;
 use message::Read;
+use slots::Place;
 use slots::Send;
 use slots::Store;
 
@@ -27,14 +28,19 @@ use slots::Store;
 fn receipt_store(plan: Plan, inbox: &[u8], m: Message) -> Verdict
     ensures { λ r. ⌜ verdictOutcome r ≡ receiptStore (viewBytes plan (now (inbox .entry))) m ⌝ }
 {
-    let send = search::send_message(plan, inbox, m);
-    match send {
-        Send::Slot { slot: _, store } => Verdict::Accepted(Change {
-            table: Update::Inbox(store),
+    let place = search::locate_message(plan, inbox, m);
+    match place {
+        Place::At(_) => Verdict::Accepted(Change {
+            table: Update::Inbox(Store::Keep),
             network: Store::Keep,
             sent: Sent::Quiet,
         }),
-        Send::NoRoom => Verdict::Refused(14),
+        Place::Free(slot) => Verdict::Accepted(Change {
+            table: Update::Inbox(Store::Put { place: slot, m }),
+            network: Store::Keep,
+            sent: Sent::Quiet,
+        }),
+        Place::Full => Verdict::Refused(14),
     }
 }
 

@@ -5,17 +5,16 @@
 --     found-end, found-here        the end without a slot that is the form, and such a slot
 --     row-further, found-row, passed-row     the same of a row
 -- Assumes nothing.
-use Prim.Native.Nat.{ℕ, suc, _+_, _*_, _/_, _≤_, _<_}
-use mathlib.Core.List.{List, []}
-use mathlib.Core.Path.{_≡_, sym, _∙_, subst}
+use Prim.Native.Nat.{ℕ, suc, _+_, _*_, _≤_, _<_}
+use mathlib.Core.List.{List}
+use mathlib.Core.Path.{_≡_, sym, _∙_}
 use native.Mathlib.Decide.{ℕ-discrete, decLe}
 use native.Mathlib.Nat.{le-refl, lt-irrefl, lt-of-lt-of-le}
 use native.Mathlib.Omega.{arith}
-use lib.ListN.{length, getD}
-use Rattle.slots.specs.Table.{slotSize, slots}
+use Rattle.slots.specs.Table.{slotSize}
 use Rattle.slots.specs.Table.Words.{WordFrom}
-use Rattle.slots.proofs.Eight.{slot-eight}
-use Rattle.search.specs.Blocks.{NoneBegins, NoneIs, Passed, Found}
+use Rattle.search.specs.Words.{lowHalf}
+use Rattle.search.specs.Blocks.{NoneBegins, Is, NoneIs, Passed, Found}
 
 module _ (t : List ℕ) (head from : ℕ) where
   pub begins-none : NoneBegins t head from from
@@ -31,10 +30,9 @@ module _ (t : List ℕ) (head from : ℕ) where
         ];
       }
 
-module _ (t form : List ℕ) (from : ℕ) where
-  pub begins-form : (head to : ℕ) → WordFrom form 0 head → to ≤ length t / slotSize → NoneBegins t head from to → NoneIs t form from to
-  begins-form head to of-head fits none k l m e =
-      none .each k l m (subst (λ (f : List ℕ). WordFrom f 0 head) (sym e ∙ slot-eight t k (omega arith)) of-head)
+module _ (t : List ℕ) (form from : ℕ) where
+  pub begins-form : (to : ℕ) → NoneBegins t (lowHalf form) from to → NoneIs t form from to
+  begins-form to none k l m is = none .each k l m (is .first)
 
   pub passed-start : (end : ℕ) → from ≤ end → Passed t form from end from
   passed-start end h = record { after = le-refl from; before = h; others = λ k l m. absurd (omega arith) }
@@ -47,21 +45,21 @@ module _ (t form : List ℕ) (from : ℕ) where
         others = λ k l m. elim (decLe place k) [ yes h ↦ more k h m | no h ↦ p .others k l (omega arith) ];
       }
 
-  pub none-next : (to : ℕ) → NoneIs t form from to → (getD (slots t) to [] ≡ form → ⊥) → NoneIs t form from (to + 1)
+  pub none-next : (to : ℕ) → NoneIs t form from to → (Is t form to → ⊥) → NoneIs t form from (to + 1)
   none-next to before differs k l m =
       elim (ℕ-discrete k to) [
         | yes e ↦ λ is. differs (rw e at is)
         | no n ↦ before k l (omega arith)
       ]
 
-  pub passed-one : (end place : ℕ) → place < end → Passed t form from end place → (getD (slots t) place [] ≡ form → ⊥) → Passed t form from end (place + 1)
+  pub passed-one : (end place : ℕ) → place < end → Passed t form from end place → (Is t form place → ⊥) → Passed t form from end (place + 1)
   passed-one end place in-end p differs =
       record { after = omega (arith, p .after); before = omega arith; others = none-next place (p .others) differs }
 
   pub found-end : (end place : ℕ) → end ≤ place → Passed t form from end place → Found t form from end place
   found-end end place h p = record { passed = p; is = λ l. absurd (lt-irrefl place (lt-of-lt-of-le l h)) }
 
-  pub found-here : (end place : ℕ) → Passed t form from end place → getD (slots t) place [] ≡ form → Found t form from end place
+  pub found-here : (end place : ℕ) → Passed t form from end place → Is t form place → Found t form from end place
   found-here end place p is = record { passed = p; is = λ l. is }
 
 -- a row that begins before the end has a slot
@@ -69,7 +67,7 @@ pub row-further : (place from to end : ℕ) → place < end → place ≤ from �
 row-further place from to end h on row some = elim (decLe (suc from) end) [ yes l ↦ omega (arith, some l) | no l ↦ omega arith ]
 
 -- what is found in a row that begins where all before was passed
-module _ (t form : List ℕ) (end place from to r : ℕ) (before : Passed t form 0 end place) (rows : Passed t form place end from) (in-end : to ≤ end) (row : Found t form from to r) where
+module _ (t : List ℕ) (form end place from to r : ℕ) (before : Passed t form 0 end place) (rows : Passed t form place end from) (in-end : to ≤ end) (row : Found t form from to r) where
   upto : Passed t form 0 end from
   upto = passed-more t form 0 end place from (rows .after) (rows .before) before (rows .others)
 

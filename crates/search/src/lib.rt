@@ -5,10 +5,11 @@
 //     pair, eight_from        two words as one number, so that a slot is compared in one step
 //     same, hits              whether one of so many slots begins as the form does, without a branch
 //     passed_to, find_from    past so many slots at a time, and slot by slot
-//     row_end, find_before    the first slot with these eight bytes
+//     row_end, find_before    the first slot that is the form
 //     locate_form             that slot before the edge, or the one there
-//     locate_message          the same of a message
-//     send_message            the slot where a message stands or goes, decided before anything is stored
+//     form_of                 the eight bytes of a message as one number, its form
+//     locate_message          where a message stands or goes
+//     send_message            the same, with what is to be stored, decided before anything is stored
 //
 // What each of them means stands in the specs/ of `slots`; how bytes are taken as numbers, and blocks, in specs/. No public function has
 // a `requires`, and none looks past its table.
@@ -21,7 +22,7 @@ ghost use Rattle.slots.specs.Table.Scan.{locate};
 ghost use Rattle.slots.specs.View.Bytes.{viewBytes};
 ghost use Rattle.slots.specs.Table.Words.{wordSize, WordFrom};
 ghost use Rattle.search.specs.Words.{Pair, EightFrom};
-ghost use Rattle.search.specs.Blocks.{NoneBegins, Passed, Found};
+ghost use Rattle.search.specs.Blocks.{NoneBegins, Passed, Found, Located};
 use message::Message;
 use message::Plan;
 use message::SLOT_SIZE;
@@ -41,6 +42,9 @@ const ROW_SLOTS: usize = 16;
 // The lowest byte of a number is what it leaves when divided by this.
 const BYTE: u64 = 0x100;
 
+// And its lower word.
+const WORD: u64 = 0x1_0000_0000;
+
 // Four bytes from an index on as one number.
 fn word_from(bytes: &[u8], at: usize) -> u32
     requires { ⌜ at + wordSize ≤ length (now bytes) ⌝ }
@@ -53,7 +57,7 @@ fn word_from(bytes: &[u8], at: usize) -> u32
 fn pair(low: u32, high: u32) -> u64
     ensures { λ r. ⌜ Pair low high r ⌝ }
 {
-    low as u64 + high as u64 * 0x1_0000_0000
+    low as u64 + high as u64 * WORD
 }
 
 // Eight bytes from an index on.
@@ -86,11 +90,11 @@ fn hits(table: &[u8], place: usize, slots: usize, head: u32) -> u32
 }
 
 // From a place on, so many slots at a time, up to those of which one may be the form, or fewer than so many before `end`.
-fn passed_to(table: &[u8], from: usize, end: usize, slots: usize, form: &[u8]) -> usize
-    requires { ⌜ (from ≤ end) × (end ≤ length (now table) / slotSize) × (1 ≤ slots) × (length (now form) ≡ slotSize) ⌝ }
-    ensures { λ r. ⌜ Passed (now (table .entry)) (now (form .entry)) from end r ⌝ }
+fn passed_to(table: &[u8], from: usize, end: usize, slots: usize, form: u64) -> usize
+    requires { ⌜ (from ≤ end) × (end ≤ length (now table) / slotSize) × (1 ≤ slots) ⌝ }
+    ensures { λ r. ⌜ Passed (now (table .entry)) form from end r ⌝ }
 {
-    let head = word_from(form, 0);
+    let head = (form % WORD) as u32;
     let mut place = from;
     while slots <= end - place {
         if hits(table, place, slots, head) != 0 {
@@ -101,15 +105,14 @@ fn passed_to(table: &[u8], from: usize, end: usize, slots: usize, form: &[u8]) -
     place
 }
 
-// The first slot from a place on with these eight bytes, slot by slot, or `end`.
-fn find_from(table: &[u8], from: usize, end: usize, form: &[u8]) -> usize
-    requires { ⌜ (from ≤ end) × (end ≤ length (now table) / slotSize) × (length (now form) ≡ slotSize) ⌝ }
-    ensures { λ r. ⌜ Found (now (table .entry)) (now (form .entry)) from end r ⌝ }
+// The first slot from a place on that is the form, slot by slot, or `end`.
+fn find_from(table: &[u8], from: usize, end: usize, form: u64) -> usize
+    requires { ⌜ (from ≤ end) × (end ≤ length (now table) / slotSize) ⌝ }
+    ensures { λ r. ⌜ Found (now (table .entry)) form from end r ⌝ }
 {
-    let whole = eight_from(form, 0);
     let mut place = from;
     while place < end {
-        if eight_from(table, place * SLOT_SIZE) == whole {
+        if eight_from(table, place * SLOT_SIZE) == form {
             return place;
         }
         place += 1;
@@ -129,10 +132,10 @@ fn row_end(from: usize, end: usize) -> usize
     }
 }
 
-// The first slot with these eight bytes, or `end`: past blocks, then past rows, and in a row that may have it slot by slot.
-fn find_before(table: &[u8], end: usize, form: &[u8]) -> usize
-    requires { ⌜ (end ≤ length (now table) / slotSize) × (length (now form) ≡ slotSize) ⌝ }
-    ensures { λ r. ⌜ Found (now (table .entry)) (now (form .entry)) 0 end r ⌝ }
+// The first slot that is the form, or `end`: past blocks, then past rows, and in a row that may have it slot by slot.
+fn find_before(table: &[u8], end: usize, form: u64) -> usize
+    requires { ⌜ end ≤ length (now table) / slotSize ⌝ }
+    ensures { λ r. ⌜ Found (now (table .entry)) form 0 end r ⌝ }
 {
     let mut place = passed_to(table, 0, end, BLOCK_SLOTS, form);
     while place < end {
@@ -147,18 +150,16 @@ fn find_before(table: &[u8], end: usize, form: &[u8]) -> usize
     place
 }
 
-// The first slot with these eight bytes before the edge of the table, else the slot there, else none. Up to the place near the edge no slot is
+// The first slot that is the form before the edge of the table, else the slot there, else none. Up to the place near the edge no slot is
 // looked at for being unused, and from there on each is.
-fn locate_form(table: &[u8], form: &[u8]) -> Place
-    requires { ⌜ length (now form) ≡ slotSize ⌝ }
-    ensures { λ r. ⌜ r ≡ locate (now (table .entry)) (now (form .entry)) ⌝ }
+fn locate_form(table: &[u8], form: u64) -> Place
+    ensures { λ r. ⌜ Located (now (table .entry)) form r ⌝ }
 {
     let near = slots::near_edge(table);
     let found = find_before(table, near, form);
     if found < near {
         return Place::At(found);
     }
-    let whole = eight_from(form, 0);
     let count = table.len() / SLOT_SIZE;
     let mut place = near;
     while place < count {
@@ -166,7 +167,7 @@ fn locate_form(table: &[u8], form: &[u8]) -> Place
         if slot % BYTE == 0 {
             return Place::Free(place);
         }
-        if slot == whole {
+        if slot == form {
             return Place::At(place);
         }
         place += 1;
@@ -174,19 +175,27 @@ fn locate_form(table: &[u8], form: &[u8]) -> Place
     Place::Full
 }
 
-// The first slot before the edge where an equal message stands, else the slot there; or that there is no room.
-fn locate_message(plan: Plan, table: &[u8], m: Message) -> Place
-    ensures { λ r. ⌜ r ≡ locate (now (table .entry)) (slotOf plan m) ⌝ }
+// The eight bytes of a message's slot as one number.
+fn form_of(plan: Plan, m: Message) -> u64
+    ensures { λ r. ⌜ EightFrom (slotOf plan m) 0 r ⌝ }
 {
     let form = message::encode(plan, m);
-    locate_form(table, &form)
+    eight_from(&form, 0)
 }
 
-// Looks where the message stands or may be appended. It stores nothing yet: nothing is to be stored where an equal one stands.
+// The first slot before the edge where an equal message stands, else the slot there; or that there is no room.
+pub fn locate_message(plan: Plan, table: &[u8], m: Message) -> Place
+    ensures { λ r. ⌜ r ≡ locate (now (table .entry)) (slotOf plan m) ⌝ }
+{
+    locate_form(table, form_of(plan, m))
+}
+
+// Looks where the message stands or may be appended. It stores nothing yet: nothing is to be stored where an equal one stands. It calls
+// `locate_form` and not `locate_message`: with two callers the search is compiled once, and this goes into its callers.
 pub fn send_message(plan: Plan, table: &[u8], m: Message) -> Send
     ensures { λ r. ⌜ r ≡ viewBytes plan (now (table .entry)) .send m ⌝ }
 {
-    let place = locate_message(plan, table, m);
+    let place = locate_form(table, form_of(plan, m));
     match place {
         Place::At(slot) => Send::Slot {
             slot,

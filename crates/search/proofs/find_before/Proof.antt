@@ -14,7 +14,7 @@ abbrev μ-loop : tie.MeasureT-loop
 μ-loop table end form place₀ place = end - place
 
 passed-to-requires : tie.Need-passed-to-requires Inv-loop μ-loop
-passed-to-requires c κs = let at-start = c .before .before in (zero-le, at-start .pre .0, lit≤ tt, at-start .pre .1)
+passed-to-requires c κs = (zero-le, c .before .pre, lit≤ tt)
 
 loop-holds : tie.Need-loop-holds Inv-loop μ-loop
 loop-holds c = c .passed-to .ensures
@@ -22,8 +22,8 @@ loop-holds c = c .passed-to .ensures
 passed-to-requires-2 : tie.Need-passed-to-requires-2 Inv-loop μ-loop
 passed-to-requires-2 c κs =
     let at-loop = c .before in
-    let at-start = at-loop .before .before .before .before in
-    (at-loop .loop .inv .before, at-start .pre .0, lit≤ tt, at-start .pre .1)
+    let at-start = at-loop .before .before .before in
+    (at-loop .loop .inv .before, at-start .pre, lit≤ tt)
 
 row-end-requires : tie.Need-row-end-requires Inv-loop μ-loop
 row-end-requires c κs = c .passed-to2 .ensures .before
@@ -31,9 +31,9 @@ row-end-requires c κs = c .passed-to2 .ensures .before
 find-from-requires : tie.Need-find-from-requires Inv-loop μ-loop
 find-from-requires c κs =
     let at-loop = c .before .before .before in
-    let at-start = at-loop .before .before .before .before in
+    let at-start = at-loop .before .before .before in
     let row = c .row-end .ensures in
-    (row .0, omega (arith, row .1, at-start .pre .0), at-start .pre .1)
+    (row .0, omega (arith, row .1, at-start .pre))
 
 returns : tie.Need-returns Inv-loop μ-loop
 returns c =

@@ -9,78 +9,63 @@ use Rattle.slots.specs.Table.Scan.{nearEdge}
 use Rattle.slots.specs.Table.Edge.{near-within}
 use Rattle.search.specs.Words.Laws.{first-byte}
 use Rattle.search.specs.Blocks.{Found}
-use Rattle.search.proofs.Look.{Compared, is-form, not-form, found-near, looked-near, Looked, looked-at, looked-next, looked-free, looked-full}
+use Rattle.search.proofs.Look.{is-form, not-form, found-near, looked-near, Looked, looked-at, looked-next, looked-free, looked-full}
 use Rattle.search.proofs.locate_form.Statement.{statement}
 use Rattle.search.proofs.locate_form.Tie as tie
 
 abbrev Inv-loop : tie.InvT-loop
-Inv-loop table form near found whole count place₀ place = Looked table form place
+Inv-loop table form near found count place₀ place = Looked table form place
 
 abbrev μ-loop : tie.MeasureT-loop
-μ-loop table form near found whole count place₀ place = count - place
+μ-loop table form near found count place₀ place = count - place
 
 -- what was found before the place near the edge
 abbrev begun : tie.After-find-before Inv-loop μ-loop → tie.Start Inv-loop μ-loop
-begun c = c .before .before .before .before
+begun c = c .before .before .before
 
 found : (c : tie.After-find-before Inv-loop μ-loop)
-    → Found (now (begun c .args .table)) (now (begun c .args .form)) 0 (nearEdge (now (begun c .args .table))) (c .find-before .result)
+    → Found (now (begun c .args .table)) (begun c .args .form) 0 (nearEdge (now (begun c .args .table))) (c .find-before .result)
 found c = rw (c .before .near-edge .ensures) at (c .find-before .ensures)
 
 near-edge-requires : tie.Need-near-edge-requires Inv-loop μ-loop
 near-edge-requires c κs = tt
 
 find-before-requires : tie.Need-find-before-requires Inv-loop μ-loop
-find-before-requires c κs = (rw (c .near-edge .ensures) (near-within _), c .before .before .before .pre)
+find-before-requires c κs = rw (c .near-edge .ensures) (near-within _)
 
 returns : tie.Need-returns Inv-loop μ-loop
 returns c = let at-found = c .before in found-near (found at-found) (rw (at-found .before .near-edge .ensures) at (c .if1 .taken))
 
-eight-from-requires : tie.Need-eight-from-requires Inv-loop μ-loop
-eight-from-requires c κs = search needs
-
 loop-holds : tie.Need-loop-holds Inv-loop μ-loop
 loop-holds c =
-    let at-left = c .before in
-    let at-found = at-left .before in
+    let at-found = c .before in
     let near = at-found .before .near-edge .ensures in
-    rw near (looked-near (found at-found) (rw near at (at-left .if1 .left)))
+    rw near (looked-near (found at-found) (rw near at (c .if1 .left)))
 
 mul-eight-from : tie.Need-mul-eight-from Inv-loop μ-loop
 mul-eight-from c = search needs
 
-eight-from-requires-2 : tie.Need-eight-from-requires-2 Inv-loop μ-loop
-eight-from-requires-2 c κs = search needs
+eight-from-requires : tie.Need-eight-from-requires Inv-loop μ-loop
+eight-from-requires c κs = search needs
 
 -- the loop's test and its head, from where the slot was read, and where the function began
-abbrev tested : tie.After-eight-from2 Inv-loop μ-loop → tie.In-loop Inv-loop μ-loop
+abbrev tested : tie.After-eight-from Inv-loop μ-loop → tie.In-loop Inv-loop μ-loop
 tested c = c .before
 
-abbrev looped : tie.After-eight-from2 Inv-loop μ-loop → tie.At-loop Inv-loop μ-loop
+abbrev looped : tie.After-eight-from Inv-loop μ-loop → tie.At-loop Inv-loop μ-loop
 looped c = tested c .before
 
-abbrev start : tie.After-eight-from2 Inv-loop μ-loop → tie.Start Inv-loop μ-loop
-start c = begun (looped c .before .before .before)
-
--- the slot and the form as numbers
-compared : (c : tie.After-eight-from2 Inv-loop μ-loop)
-    → Compared (now (start c .args .table)) (now (start c .args .form)) (looped c .loop .place) (c .eight-from2 .result) (looped c .before .eight-from .result)
-compared c =
-    record {
-      size = start c .pre;
-      inside = tested c .loop-test .taken;
-      of-slot = c .eight-from2 .ensures;
-      of-form = looped c .before .eight-from .ensures;
-    }
+abbrev start : tie.After-eight-from Inv-loop μ-loop → tie.Start Inv-loop μ-loop
+start c = begun (looped c .before .before)
 
 -- a slot that does not begin with 0
-used : (c : tie.After-eight-from2 Inv-loop μ-loop) → (c .eight-from2 .result % 0x100 ≡ 0 → ⊥) → getD (now (start c .args .table)) (looped c .loop .place * slotSize) 0 ≡ 0 → ⊥
-used c left e = left (first-byte (c .eight-from2 .ensures) ∙ e)
+used : (c : tie.After-eight-from Inv-loop μ-loop) → (c .eight-from .result % 0x100 ≡ 0 → ⊥) → getD (now (start c .args .table)) (looped c .loop .place * slotSize) 0 ≡ 0 → ⊥
+used c left e = left (first-byte (c .eight-from .ensures) ∙ e)
 
 returns-2 : tie.Need-returns-2 Inv-loop μ-loop
 returns-2 c =
     let at-slot = c .before in
-    looked-free (looped at-slot .loop .inv) (tested at-slot .loop-test .taken) (sym (first-byte (at-slot .eight-from2 .ensures)) ∙ c .if2 .taken)
+    looked-free (looped at-slot .loop .inv) (tested at-slot .loop-test .taken) (sym (first-byte (at-slot .eight-from .ensures)) ∙ c .if2 .taken)
 
 returns-3 : tie.Need-returns-3 Inv-loop μ-loop
 returns-3 c =
@@ -88,7 +73,7 @@ returns-3 c =
     let at-slot = at-used .before in
     looked-at (looped at-slot .loop .inv) (tested at-slot .loop-test .taken)
     (used at-slot (at-used .if2 .left))
-    (is-form (compared at-slot) (c .if3 .taken))
+    (is-form (at-slot .eight-from .ensures) (c .if3 .taken))
 
 add-place : tie.Need-add-place Inv-loop μ-loop
 add-place c = search needs
@@ -102,7 +87,7 @@ loop-again c =
     let at-slot = at-used .before in
     looked-next (looped at-slot .loop .inv) (tested at-slot .loop-test .taken)
     (used at-slot (at-used .if2 .left))
-    (not-form (compared at-slot) (c .if3 .left))
+    (not-form (at-slot .eight-from .ensures) (c .if3 .left))
 
 returns-4 : tie.Need-returns-4 Inv-loop μ-loop
 returns-4 c = looked-full (c .before .loop .inv) (c .loop-test .left)
@@ -116,10 +101,9 @@ locate-form-spec =
     near-edge-requires
     find-before-requires
     returns
-    eight-from-requires
     loop-holds
     mul-eight-from
-    eight-from-requires-2
+    eight-from-requires
     returns-2
     returns-3
     add-place

@@ -1,21 +1,16 @@
--- `search::locate_message` meets its contract: the form is the message's slot. Assumes nothing.
-use mathlib.Core.Path.{_∙_, ap}
-use borrow.Author.Needs.{needs}
-use Rattle.slots.specs.Table.Scan.{locate}
+-- `search::locate_message` meets its contract: the form is that of the message. Assumes nothing.
+use Rattle.search.proofs.Look.{message-located}
 use Rattle.search.proofs.locate_message.Statement.{statement}
 use Rattle.search.proofs.locate_message.Tie as tie
 
-encode-requires : tie.Need-encode-requires
-encode-requires c κs = tt
-
-slice-aggregate-locate-form : tie.Need-slice-aggregate-locate-form
-slice-aggregate-locate-form c = search needs
+form-of-requires : tie.Need-form-of-requires
+form-of-requires c κs = tt
 
 locate-form-requires : tie.Need-locate-form-requires
-locate-form-requires c κs = search needs
+locate-form-requires c κs = tt
 
 returns : tie.Need-returns
-returns c = let at-encode = c .before .before in c .locate-form .ensures ∙ ap (locate _) (at-encode .encode .ensures)
+returns c = message-located _ _ (c .before .form-of .ensures) (c .locate-form .ensures)
 
 pub locate-message-spec : {M : Type 1} → statement M
-locate-message-spec = tie.close (tie.spec encode-requires slice-aggregate-locate-form locate-form-requires returns)
+locate-message-spec = tie.close (tie.spec form-of-requires locate-form-requires returns)

@@ -13,17 +13,17 @@ Inv-loop table from end slots form head place₀ place = Passed table form from 
 abbrev μ-loop : tie.MeasureT-loop
 μ-loop table from end slots form head place₀ place = end - place
 
-word-from-requires : tie.Need-word-from-requires Inv-loop μ-loop
-word-from-requires c κs = search needs
+cast-head : tie.Need-cast-head Inv-loop μ-loop
+cast-head c = search needs
 
 loop-holds : tie.Need-loop-holds Inv-loop μ-loop
-loop-holds c = passed-start _ _ _ _ (c .before .before .before .pre .0)
+loop-holds c = passed-start _ _ _ _ (c .before .pre .0)
 
 sub-loop : tie.Need-sub-loop Inv-loop μ-loop
 sub-loop c = c .loop .inv .before
 
 hits-requires : tie.Need-hits-requires Inv-loop μ-loop
-hits-requires c κs = let at-loop = c .before in omega (arith, at-loop .loop .inv .before, at-loop .before .before .before .before .pre .1)
+hits-requires c κs = let at-loop = c .before in omega (arith, at-loop .loop .inv .before, at-loop .before .before .pre .1)
 
 returns : tie.Need-returns Inv-loop μ-loop
 returns c = c .before .before .before .loop .inv
@@ -32,17 +32,15 @@ add-place : tie.Need-add-place Inv-loop μ-loop
 add-place c = let at-loop = c .before .before .before in omega (arith, at-loop .loop .inv .before)
 
 loop-less : tie.Need-loop-less Inv-loop μ-loop
-loop-less c = let at-loop = c .before .before .before in omega (arith, at-loop .loop .inv .before, at-loop .before .before .before .before .pre .2)
+loop-less c = let at-loop = c .before .before .before in omega (arith, at-loop .loop .inv .before, at-loop .before .before .pre .2)
 
 loop-again : tie.Need-loop-again Inv-loop μ-loop
 loop-again c =
     let at-hits = c .before in
     let at-loop = at-hits .before .before in
-    let at-head = at-loop .before in
-    let at-start = at-head .before .before .before in
     let passed = at-loop .loop .inv in
     passed-more _ _ _ _ _ _ (omega arith) (omega (arith, passed .before)) passed
-    (begins-form _ _ _ _ _ (at-head .word-from .ensures) (omega (arith, passed .before, at-start .pre .1)) (at-hits .hits .ensures (c .if1 .left)))
+    (begins-form _ _ _ _ (at-hits .hits .ensures (c .if1 .left)))
 
 returns-2 : tie.Need-returns-2 Inv-loop μ-loop
 returns-2 c = c .before .loop .inv
@@ -53,7 +51,7 @@ passed-to-spec =
     (tie.spec
     Inv-loop
     μ-loop
-    word-from-requires
+    cast-head
     loop-holds
     sub-loop
     hits-requires
