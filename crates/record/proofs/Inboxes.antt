@@ -1,4 +1,4 @@
--- Storing in the part of I that the code takes: it is leader l's inbox (`part-is` of the crate `verdict`).
+-- Storing in the part of I, or of the summary, that the code takes: it is leader l's (`part-is` of the crate `verdict`).
 --     putPart, part-put     I with other bytes in that part
 -- Assumes nothing.
 use Prim.Native.Nat.{ℕ, _+_, _-_, _*_, _/_}
@@ -11,15 +11,11 @@ use borrow.Rule.Slice.PartMut.{putMid}
 use Rattle.message.specs.declared.Plan.{Plan}
 use Rattle.record.specs.Record.{inboxSize, withInbox}
 
--- I with other bytes put in that part
-abbrev pub putPart : Plan → List ℕ → ℕ → List ℕ → List ℕ
-putPart p inboxes l inbox =
-    putMid (l * (length inboxes / p .leaders)) (l * (length inboxes / p .leaders) + length inboxes / p .leaders - l * (length inboxes / p .leaders)) inboxes inbox
+-- the bytes with others put in that part
+abbrev pub putPart : ℕ → List ℕ → ℕ → List ℕ → List ℕ
+putPart size bytes l part = putMid (l * size) (l * size + size - l * size) bytes part
 
-module _ (p : Plan) (inboxes : List ℕ) (l : ℕ) where
-  abbrev size : ℕ
-  size = length inboxes / p .leaders
-
-  pub part-put : (inbox : List ℕ) → putPart p inboxes l inbox ≡ withInbox p inboxes l inbox
+module _ (p : Plan) (bytes : List ℕ) (size : ℕ) (of-size : size ≡ length bytes / p .leaders) (l : ℕ) where
+  pub part-put : (part : List ℕ) → putPart size bytes l part ≡ withInbox p bytes l part
   unfolding withInbox inboxSize
-  part-put inbox = rw (add-sub-cancel-left (l * size) size, drop-drop size (l * size) inboxes)
+  part-put part = rw (add-sub-cancel-left (l * size) size, drop-drop size (l * size) bytes, of-size)

@@ -7,13 +7,13 @@
 --     step-unsound                                a summary that is none
 --     step-applied, step-performed                on a judged record that is the event call
 -- Assumes nothing.
-use Prim.Native.Nat.{ℕ, _+_, _*_, _≤_, _<_}
+use Prim.Native.Nat.{ℕ, _+_, _*_, _/_, _≤_, _<_}
 use mathlib.Core.Bool.{Bool, true, false, not}
 use mathlib.Core.List.{List}
 use mathlib.Core.Path.{_≡_, refl, sym, _∙_, ap, ap₂}
 use native.Mathlib.Decide.{decLe, ℕ-discrete}
 use native.Mathlib.Omega.{arith}
-use lib.ListN.{set}
+use lib.ListN.{length, set}
 use borrow.Author.Tests.{le-leb, lt-leb, eq-eqb, ne-eqb, lt-ltb, le-ltb, not-false}
 use Rattle.message.specs.declared.Plan.{Plan}
 use Rattle.message.specs.Outcome.{Outcome, accepted, refused, andThen, refuseIf, numberOf}
@@ -69,19 +69,21 @@ module _ (p : Plan) (i : List ℕ) (l : ℕ) (store : Store) where
   unfolding keptInbox
   kept-none h = rw (le-ltb l (p .leaders) h)
 
-  pub kept-part : l < p .leaders → (b : List ℕ) → b ≡ storeBytes p store (partOf p i l) → putPart p i l b ≡ keptInbox p i l store
+  pub kept-part : l < p .leaders → (size : ℕ) → size ≡ length i / p .leaders → (b : List ℕ) → b ≡ storeBytes p store (partOf size i l)
+      → putPart size i l b ≡ keptInbox p i l store
   unfolding keptInbox
-  kept-part h b done =
+  kept-part h size of-size b done =
       rw (lt-ltb l (p .leaders) h)
-      (part-put p i l b ∙ ap (withInbox p i l) (done ∙ ap (storeBytes p store) (part-is p i l)))
+      (part-put p i size of-size l b ∙ ap (withInbox p i l) (done ∙ ap (storeBytes p store) (part-is p i size of-size l)))
 
 -- marking a leader's bytes of the summary
-pub marked-part : (p : Plan) (i s n : List ℕ) (l slot : ℕ) (b : List ℕ)
-    → b ≡ markedAt (decidedBytes p (partOf p i l)) (partOf p s l) (viewBytes p n .slot slot)
-    → putPart p s l b ≡ withInbox p s l (markedAt (decidedBytes p (inboxOf p i l)) (inboxOf p s l) (viewBytes p n .slot slot))
-marked-part p i s n l slot b done =
-    part-put p s l b
-    ∙ ap (withInbox p s l) (done ∙ ap₂ (λ (box own : List ℕ). markedAt (decidedBytes p box) own (viewBytes p n .slot slot)) (part-is p i l) (part-is p s l))
+pub marked-part : (p : Plan) (i s n : List ℕ) (l slot size : ℕ) → size ≡ length i / p .leaders → (count : ℕ) → count ≡ length s / p .leaders
+    → (b : List ℕ) → b ≡ markedAt (decidedBytes p (partOf size i l)) (partOf count s l) (viewBytes p n .slot slot)
+    → putPart count s l b ≡ withInbox p s l (markedAt (decidedBytes p (inboxOf p i l)) (inboxOf p s l) (viewBytes p n .slot slot))
+marked-part p i s n l slot size of-size count of-count b done =
+    part-put p s count of-count l b
+    ∙ ap (withInbox p s l)
+    (done ∙ ap₂ (λ (box own : List ℕ). markedAt (decidedBytes p box) own (viewBytes p n .slot slot)) (part-is p i size of-size l) (part-is p s count of-count l))
 
 -- an update of each table
 module _ (p : Plan) (l : ℕ) (w q i : List ℕ) (u : UpdateType.Update) where

@@ -100,7 +100,7 @@ fn mark_part(
     let from = leader as usize * size;
     let to = from + size;
     let inbox = &inboxes[from..to];
-    let count = summary.len() / plan.leaders as usize;
+    let count = summary::part_size(plan, summary.len());
     let start = leader as usize * count;
     let end = start + count;
     let own = &mut summary[start..end];

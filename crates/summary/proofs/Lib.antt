@@ -1,5 +1,7 @@
 -- The proofs that belong to no one function.
---     Reading    a bit of each byte, and for all and for some of them
+--     Reading    a bit of the bytes put together, and for all and for some of them
+--     Parts      the size of a leader's part
 --     Marking    what a 2b does to the byte of its instance
 pub mod Reading
+pub mod Parts
 pub mod Marking

@@ -1,12 +1,13 @@
 // The summary (document 02, Paper 5): beside an inbox a byte for each instance, bit 0 when prepared is Decided, bit 1 when aborted is.
 //
 //     is_summary                      row 20 of "Refusals by place"
-//     all_prepared, some_aborted      the conditions of kinds 7 and 8, read from it alone
-//     mark_vote, mark_message, mark     what an accepted receipt does to it
+//     all_prepared, some_aborted      the conditions of kinds 7 and 8, read from it alone; covered, for how many instances it has a byte
+//     part_size                       how many bytes of a whole summary are a leader's
+//     mark_vote, mark_message, mark   what an accepted receipt does to it
 //
 // It is lent a leader's bytes of the summary, of any content and length. What each of them means stands in specs/.
 ghost use mathlib.Core.Path.{_≡_};
-ghost use Prim.Native.Nat.{ℕ, _-_};
+ghost use Prim.Native.Nat.{ℕ, _-_, _/_, min};
 ghost use Rattle.message.specs.declared.Message.the-variants.{Phase2b};
 ghost use Rattle.slots.specs.View.Bytes.{viewBytes};
 ghost use Rattle.inbox.specs.Inbox.{forAll, forSome};
@@ -25,32 +26,61 @@ pub fn is_summary(summary: &[u8], count: usize) -> bool
     slots::are_two_bits(summary)
 }
 
-// Kind 7: whether prepared stands for every instance.
+// Kind 7: whether prepared stands for every instance: bit 0 of the bytes put together by `&`, so that no byte has a branch of its own.
 pub fn all_prepared(plan: Plan, summary: &[u8]) -> bool
     ensures { λ r. ⌜ r ≡ forAll (plan .rms) (λ i. stands (now (summary .entry)) i 1) ⌝ }
 {
-    let mut i = plan.rms as usize;
-    while 0 < i {
-        i -= 1;
-        if message::byte_at(summary, i) % 2 != 1 {
-            return false;
-        }
+    let n = plan.rms as usize;
+    if summary.len() < n {
+        return false;
     }
-    true
+    let mut all = 1;
+    let mut i = 0;
+    while i < n {
+        all = all & summary[i];
+        i += 1;
+    }
+    all % 2 == 1
 }
 
-// Kind 8: whether aborted stands for some instance.
+// For how many instances a summary of so many bytes has a byte.
+fn covered(plan: Plan, size: usize) -> usize
+    ensures { λ r. ⌜ r ≡ min size (plan .rms) ⌝ }
+{
+    let n = plan.rms as usize;
+    if size < n {
+        return size;
+    }
+    n
+}
+
+// Kind 8: whether aborted stands for some instance: bit 1 of the bytes put together by `|`.
 pub fn some_aborted(plan: Plan, summary: &[u8]) -> bool
     ensures { λ r. ⌜ r ≡ forSome (plan .rms) (λ i. stands (now (summary .entry)) i 2) ⌝ }
 {
-    let mut i = plan.rms as usize;
-    while 0 < i {
-        i -= 1;
-        if message::byte_at(summary, i) / 2 % 2 == 1 {
-            return true;
-        }
+    let n = covered(plan, summary.len());
+    let mut any = 0;
+    let mut i = 0;
+    while i < n {
+        any = any | summary[i];
+        i += 1;
     }
-    false
+    any / 2 % 2 == 1
+}
+
+// The size of a leader's part of a summary of so many bytes. One of the plan's size takes no division.
+pub fn part_size(plan: Plan, size: usize) -> usize
+    ensures { λ r. ⌜ r ≡ size / plan .leaders ⌝ }
+{
+    let n = plan.rms as usize;
+    let leaders = plan.leaders as usize;
+    if leaders == 0 {
+        return 0;
+    }
+    if size == n * leaders {
+        return n;
+    }
+    size / leaders
 }
 
 // The bit of a value: 0 for prepared, 1 for aborted.

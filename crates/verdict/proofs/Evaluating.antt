@@ -3,7 +3,7 @@
 --     no-event, on-states, on-votes, on-inbox     what the event comes to: 7, or what its role makes of it
 --     leader-part                                 what a leader makes of its part of I and of the summary
 -- Assumes nothing.
-use Prim.Native.Nat.{ℕ, _≤_, _<_}
+use Prim.Native.Nat.{ℕ, _/_, _≤_, _<_}
 use mathlib.Core.Bool.{Bool, true, false, _&&_}
 use mathlib.Core.List.{List}
 use mathlib.Core.Path.{_≡_, _∙_, ap, ap₂}
@@ -55,9 +55,10 @@ module _ (p : Plan) (t : Tables) (e : List ℕ) where
     unfolding recordVerdict refuseIf
     on-inbox h k o done = rw (is, ← same, lt-leb kind 2 h, ne-eqb kind 3 k) done
 
-pub leader-part : (p : Plan) (i s n e : List ℕ) (who : ℕ) → who ≡ whoOf e → (o : Outcome Change)
-    → o ≡ leaderVerdictBy p (stands (partOf p s who)) (viewBytes p (partOf p i who)) (viewBytes p n) e → o ≡ leaderOn p i s n e
-leader-part p i s n e who same o done =
+pub leader-part : (p : Plan) (i s n e : List ℕ) (size : ℕ) → size ≡ length i / p .leaders → (count : ℕ) → count ≡ length s / p .leaders
+    → (who : ℕ) → who ≡ whoOf e → (o : Outcome Change)
+    → o ≡ leaderVerdictBy p (stands (partOf count s who)) (viewBytes p (partOf size i who)) (viewBytes p n) e → o ≡ leaderOn p i s n e
+leader-part p i s n e size of-size count of-count who same o done =
     done
     ∙ ap₂ (λ (own b : List ℕ). leaderVerdictBy p (stands own) (viewBytes p b) (viewBytes p n) e)
-    (part-is p s who ∙ ap (inboxOf p s) same) (part-is p i who ∙ ap (inboxOf p i) same)
+    (part-is p s count of-count who ∙ ap (inboxOf p s) same) (part-is p i size of-size who ∙ ap (inboxOf p i) same)

@@ -1,6 +1,7 @@
--- The part of I that the code takes.
---     part-within, part-within-of     it lies within I
---     part-is                         it is leader l's inbox
+-- The part of I, or of the summary, that the code takes: `size` is a part's size.
+--     partOf                          it
+--     part-within, part-within-of     it lies within them
+--     part-is                         it is leader l's
 -- Assumes nothing.
 use Prim.Native.Nat.{ℕ, _+_, _-_, _*_, _/_, _≤_, _<_}
 use mathlib.Core.List.{List}
@@ -13,22 +14,17 @@ use Rattle.opening.specs.Opening.{inboxSize}
 use Rattle.judging.specs.Judging.{inboxOf}
 use Rattle.opening.specs.Opening.Parts.{inbox-within}
 
--- the part that the code takes
-abbrev pub partOf : Plan → List ℕ → ℕ → List ℕ
-partOf p inboxes l =
-    take (l * (length inboxes / p .leaders) + length inboxes / p .leaders - l * (length inboxes / p .leaders)) (drop (l * (length inboxes / p .leaders)) inboxes)
+abbrev pub partOf : ℕ → List ℕ → ℕ → List ℕ
+partOf size bytes l = take (l * size + size - l * size) (drop (l * size) bytes)
 
-module _ (p : Plan) (inboxes : List ℕ) (l : ℕ) where
-  abbrev size : ℕ
-  size = length inboxes / p .leaders
-
-  pub part-within : l < p .leaders → l * size + size ≤ length inboxes
+module _ (p : Plan) (bytes : List ℕ) (size : ℕ) (of-size : size ≡ length bytes / p .leaders) (l : ℕ) where
+  pub part-within : l < p .leaders → l * size + size ≤ length bytes
   unfolding inboxSize
-  part-within h = inbox-within p inboxes l (omega arith) h
+  part-within h = rw of-size (inbox-within p bytes l (omega arith) h)
 
-  pub part-within-of : (who : ℕ) → who ≡ l → l < p .leaders → who * size + size ≤ length inboxes
+  pub part-within-of : (who : ℕ) → who ≡ l → l < p .leaders → who * size + size ≤ length bytes
   part-within-of who same h = rw same (part-within h)
 
-  pub part-is : partOf p inboxes l ≡ inboxOf p inboxes l
+  pub part-is : partOf size bytes l ≡ inboxOf p bytes l
   unfolding inboxOf inboxSize
-  part-is = rw (add-sub-cancel-left (l * size) size)
+  part-is = rw (add-sub-cancel-left (l * size) size, of-size)

@@ -30,7 +30,7 @@ fn evaluate_leader(
     let from = who * size;
     let to = from + size;
     let inbox = &inboxes[from..to];
-    let count = summary.len() / plan.leaders as usize;
+    let count = summary::part_size(plan, summary.len());
     let start = who * count;
     let end = start + count;
     let own = &summary[start..end];

@@ -1,4 +1,5 @@
 -- `record::store_in_inbox` meets its contract: the part of I that is lent is the leader's inbox, and is put back at its place. Assumes nothing.
+use mathlib.Core.Path.{refl}
 use native.Mathlib.Omega.{arith}
 use borrow.Author.Needs.{needs}
 use Rattle.verdict.proofs.Inboxes.{part-within}
@@ -14,23 +15,23 @@ returns c = kept-none _ _ _ _ (c .if1 .taken)
 mul-from : tie.Need-mul-from
 mul-from c =
     let start = c .before .before .before .before in
-    omega (arith, part-within (start .args .plan) (start .args .inboxes .now) (start .args .leader) (c .before .if1 .left))
+    omega (arith, part-within (start .args .plan) (start .args .inboxes .now) _ refl (start .args .leader) (c .before .if1 .left))
 
 add-to : tie.Need-add-to
 add-to c =
     let start = c .before .before .before .before in
-    omega (arith, part-within (start .args .plan) (start .args .inboxes .now) (start .args .leader) (c .before .if1 .left))
+    omega (arith, part-within (start .args .plan) (start .args .inboxes .now) _ refl (start .args .leader) (c .before .if1 .left))
 
 part-inbox-end : tie.Need-part-inbox-end
 part-inbox-end c =
     let start = c .before .before .before .before in
-    omega (arith, part-within (start .args .plan) (start .args .inboxes .now) (start .args .leader) (c .before .if1 .left))
+    omega (arith, part-within (start .args .plan) (start .args .inboxes .now) _ refl (start .args .leader) (c .before .if1 .left))
 
 -- what was stored, put back
 returns-2 : tie.Need-returns-2
 returns-2 c =
     let stored = c .before .before in
-    kept-part _ _ _ _ (stored .before .before .before .if1 .left) _ (stored .apply-store .ensures)
+    kept-part _ _ _ _ (stored .before .before .before .if1 .left) _ refl _ (stored .apply-store .ensures)
 
 cast-size : tie.Need-cast-size
 cast-size c = search needs

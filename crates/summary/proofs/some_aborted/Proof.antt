@@ -1,50 +1,43 @@
--- `summary::some_aborted` meets its contract: what holds of the instances below `i` holds of all. Assumes nothing.
+-- `summary::some_aborted` meets its contract: bit 1 of what is put together stands exactly where aborted does for some instance below `i`. Assumes nothing.
+use Prim.Native.Nat.{_-_, _/_, _%_, _≤_}
 use mathlib.Core.Path.{_≡_, refl}
 use native.Mathlib.Omega.{arith}
+use lib.Dec.{eqb}
+use lib.ListN.{length}
 use borrow.Author.Needs.{needs}
 use Rattle.inbox.specs.Inbox.{forSome}
-use Rattle.summary.specs.Summary.{stands}
-use Rattle.summary.proofs.Reading.{aborted-is, aborted-is-not, some-next, some-found, some-end}
+use Rattle.summary.proofs.Reading.{someAborted, some-next, some-end}
 use Rattle.summary.proofs.some_aborted.Statement.{statement}
 use Rattle.summary.proofs.some_aborted.Tie as tie
 
 abbrev Inv-loop : tie.InvT-loop
-Inv-loop summary i₀ i = forSome i (λ j. stands summary j 2) ≡ forSome i₀ (λ j. stands summary j 2)
+Inv-loop summary n any₀ i₀ any i = (n ≤ length summary) × (i ≤ n) × (eqb (any / 2 % 2) 1 ≡ someAborted summary i)
 
 abbrev μ-loop : tie.MeasureT-loop
-μ-loop summary i₀ i = i
-
-cast-i : tie.Need-cast-i Inv-loop μ-loop
-cast-i c = search needs
+μ-loop summary n any₀ i₀ any i = n - i
 
 loop-holds : tie.Need-loop-holds Inv-loop μ-loop
-loop-holds c = refl
+unfolding forSome
+loop-holds c = (omega (arith, c .covered .ensures), search needs, refl)
 
-sub-i : tie.Need-sub-i Inv-loop μ-loop
-sub-i c = search needs
+shared-slice-read-any : tie.Need-shared-slice-read-any Inv-loop μ-loop
+shared-slice-read-any c = search needs
 
-byte-at-requires : tie.Need-byte-at-requires Inv-loop μ-loop
-byte-at-requires c κs = tt
-
-returns : tie.Need-returns Inv-loop μ-loop
-returns c =
-    let at-byte = c .before in
-    let at-test = at-byte .before in
-    let at-loop = at-test .before in
-    some-found _ (at-loop .loop .i) _ _ (omega (arith, at-test .loop-test .taken)) (at-loop .loop .inv) (aborted-is _ _ _ (at-byte .byte-at .ensures) (c .if1 .taken))
+add-i : tie.Need-add-i Inv-loop μ-loop
+add-i c = search needs
 
 loop-less : tie.Need-loop-less Inv-loop μ-loop
 loop-less c = search needs
 
 loop-again : tie.Need-loop-again Inv-loop μ-loop
 loop-again c =
-    let at-byte = c .before in
-    let at-test = at-byte .before in
-    let at-loop = at-test .before in
-    some-next _ (at-loop .loop .i) _ _ (omega (arith, at-test .loop-test .taken)) (at-loop .loop .inv) (aborted-is-not _ _ _ (at-byte .byte-at .ensures) (c .if1 .left))
+    let at-loop = c .before .before in
+    (search needs, search needs, some-next _ _ (at-loop .loop .any) (at-loop .loop .inv .2))
 
-returns-2 : tie.Need-returns-2 Inv-loop μ-loop
-returns-2 c = some-end _ _ _ (omega (arith, c .loop-test .left)) (c .before .loop .inv)
+returns : tie.Need-returns Inv-loop μ-loop
+returns c =
+    let at-loop = c .before in
+    some-end _ _ _ (at-loop .loop .inv .1) (c .loop-test .left) (at-loop .loop .any) _ (at-loop .before .covered .ensures) (at-loop .loop .inv .2)
 
 pub some-aborted-spec : {M : Type 1} → statement M
 some-aborted-spec =
@@ -52,11 +45,10 @@ some-aborted-spec =
     (tie.spec
     Inv-loop
     μ-loop
-    cast-i
+    (λ c κs. tt)
     loop-holds
-    sub-i
-    byte-at-requires
-    returns
+    shared-slice-read-any
+    add-i
     loop-less
     loop-again
-    returns-2)
+    returns)

@@ -1,4 +1,5 @@
 -- `verdict::evaluate_leader` meets its contract: the parts that are lent are the leader's inbox and its bytes of the summary. Assumes nothing.
+use mathlib.Core.Path.{refl}
 use native.Mathlib.Omega.{arith}
 use Rattle.verdict.proofs.Inboxes.{part-within-of}
 use Rattle.verdict.proofs.Evaluating.{leader-part}
@@ -19,13 +20,13 @@ mul-from : tie.Need-mul-from
 mul-from c =
     let at-who = c .before in
     let start = at-who .before .before .before .before .before in
-    omega (arith, part-within-of (start .args .plan) (start .args .inboxes .now) _ _ (at-who .byte-at .ensures) (start .pre))
+    omega (arith, part-within-of (start .args .plan) (start .args .inboxes .now) _ refl _ _ (at-who .byte-at .ensures) (start .pre))
 
 add-to : tie.Need-add-to
 add-to c =
     let at-who = c .before in
     let start = at-who .before .before .before .before .before in
-    omega (arith, part-within-of (start .args .plan) (start .args .inboxes .now) _ _ (at-who .byte-at .ensures) (start .pre))
+    omega (arith, part-within-of (start .args .plan) (start .args .inboxes .now) _ refl _ _ (at-who .byte-at .ensures) (start .pre))
 
 sub-inbox : tie.Need-sub-inbox
 sub-inbox c = search needs
@@ -37,25 +38,19 @@ part-inbox-end : tie.Need-part-inbox-end
 part-inbox-end c =
     let at-who = c .before in
     let start = at-who .before .before .before .before .before in
-    omega (arith, part-within-of (start .args .plan) (start .args .inboxes .now) _ _ (at-who .byte-at .ensures) (start .pre))
-
-cast-count : tie.Need-cast-count
-cast-count c = search needs
-
-div-count : tie.Need-div-count
-div-count c = search needs
+    omega (arith, part-within-of (start .args .plan) (start .args .inboxes .now) _ refl _ _ (at-who .byte-at .ensures) (start .pre))
 
 mul-start : tie.Need-mul-start
 mul-start c =
     let at-who = c .before .before .before in
     let start = at-who .before .before .before .before .before in
-    omega (arith, part-within-of (start .args .plan) (start .args .summary .now) _ _ (at-who .byte-at .ensures) (start .pre))
+    omega (arith, part-within-of (start .args .plan) (start .args .summary .now) _ (c .part-size .ensures) _ _ (at-who .byte-at .ensures) (start .pre))
 
 add-end : tie.Need-add-end
 add-end c =
     let at-who = c .before .before .before in
     let start = at-who .before .before .before .before .before in
-    omega (arith, part-within-of (start .args .plan) (start .args .summary .now) _ _ (at-who .byte-at .ensures) (start .pre))
+    omega (arith, part-within-of (start .args .plan) (start .args .summary .now) _ (c .part-size .ensures) _ _ (at-who .byte-at .ensures) (start .pre))
 
 sub-own : tie.Need-sub-own
 sub-own c = search needs
@@ -67,14 +62,14 @@ part-own-end : tie.Need-part-own-end
 part-own-end c =
     let at-who = c .before .before .before in
     let start = at-who .before .before .before .before .before in
-    omega (arith, part-within-of (start .args .plan) (start .args .summary .now) _ _ (at-who .byte-at .ensures) (start .pre))
+    omega (arith, part-within-of (start .args .plan) (start .args .summary .now) _ (c .part-size .ensures) _ _ (at-who .byte-at .ensures) (start .pre))
 
 returns : tie.Need-returns
 returns c =
     let at-who = c .before .before .before .before .before in
     let start = at-who .before .before .before .before .before in
-    leader-part (start .args .plan) (start .args .inboxes .now) (start .args .summary .now) (start .args .network .now) (start .args .event .now) _
-    (at-who .byte-at .ensures) _ (c .evaluate .ensures)
+    leader-part (start .args .plan) (start .args .inboxes .now) (start .args .summary .now) (start .args .network .now) (start .args .event .now) _ refl _
+    (c .before .before .part-size .ensures) _ (at-who .byte-at .ensures) _ (c .evaluate .ensures)
 
 pub evaluate-leader-spec : {M : Type 1} → statement M
 evaluate-leader-spec =
@@ -89,8 +84,7 @@ evaluate-leader-spec =
     sub-inbox
     part-inbox-start
     part-inbox-end
-    cast-count
-    div-count
+    (λ c κs. tt)
     mul-start
     add-end
     sub-own
