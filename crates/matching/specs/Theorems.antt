@@ -4,6 +4,7 @@
 --     *-keeps         a refused call leaves both tables as they were, and the summary
 --     *-sound         well-formed tables stay well formed, of the same lengths, and so does the summary
 --     and for each action: an accepted call sets what the published action sets; the sent message, the answered slot and every byte are given.
+--     plain-answers       the leader's call without a summary, which reads Decided from its inbox, answers by document 01's rows
 --     leader-unmarked     a kind other than 4 leaves the summary as it was (what kind 4 leaves is in leader-receipt)
 --     majorities-meet     a plan's majorities are as document 001 assumes them, so the theorems of paxos_commit hold at every plan
 --     readable-messages   a message in range is one of document 001's set Message
@@ -52,10 +53,12 @@ use Rattle.message.specs.declared.Vote.the-variants.{Cast}
 use Rattle.message.specs.Plan.{isPlan}
 use Rattle.inbox.specs.Inbox.{decided}
 use Rattle.summary.specs.Summary.{marked}
-use Rattle.leader.specs.Leader.{owns, leaderJudged, isSummary, stands, LeaderStep, leaderStep}
-use Rattle.matching.specs.Leader.{Phase1aAction, Phase2aAction, CommitBy, AbortBy, proposed, Reports, leaderRows}
+use Rattle.leader.specs.Leader.{owns, leaderJudged, isSummary, stands, leaderStepBy, LeaderStep, leaderStep}
+use Rattle.matching.specs.Leader.{Phase1aAction, Phase2aAction, CommitBy, AbortBy, DecidedIn, proposed, Reports, leaderRowsBy, leaderRows}
 use Rattle.matching.specs.Leader.{stateOf as leaderState}
 use Rattle.matching.specs.Leader.Decided.{DecidedBy, reflects-by}
+use Rattle.matching.specs.Leader.Conditions.{reflects-inbox}
+use Rattle.matching.specs.Leader.Ruled.{leader-ruled}
 use Rattle.matching.specs.Leader.Laws as Leader
 use Rattle.matching.specs.Leader.Own as Own
 
@@ -216,6 +219,14 @@ module _ (p : Plan) (inbox summary network e : List ℕ) where
   module _ (rmState : ℕ → ℕ) (aState : ℕ → ℕ → AState) where
     pub leader-answers : InOrder (leaderRows p inbox summary network e (leaderState p network rmState aState)) (leader .step .answer)
     leader-answers = in-order-of-ruled _ _ (Own.own-ruled p inbox summary network e rmState aState)
+
+    -- the call as document 01 has it, without a summary
+    pub plain-answers : Lowest (leaderRowsBy p (DecidedIn p seen) inbox network e (leaderState p network rmState aState))
+        (leaderStepBy p (decided p (messages p inbox)) inbox network e .answer)
+    unfolding isAscending
+    plain-answers =
+        lowest-of-ruled _ refl _
+        (leader-ruled p (decided p (messages p inbox)) (DecidedIn p seen) inbox network e (reflects-inbox p (messages p inbox)) rmState aState)
 
     module _ (taken : Accepted (leader .step .answer)) where
       -- kind 4: quiet; N keeps its bytes, the inbox gains the message in the slot, and of a 2b for (i, v) the bit of v in byte i of the summary
