@@ -17,7 +17,7 @@ use Rattle.inbox.specs.Inbox.Votes.{Counts}
 
 -- the slots of a block
 abbrev pub blockSlots : ℕ
-blockSlots = 17
+blockSlots = 9
 
 -- map and instance of the slot at an index
 unfoldable pub begins2b : ℕ → List ℕ → ℕ → Bool

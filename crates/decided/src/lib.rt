@@ -42,9 +42,9 @@ fn vote_step(plan: Plan, inbox: &[u8], at: usize, ins: u8, value: u8, masks: &mu
     quorum::is_majority(plan.acceptors, mask)
 }
 
-// So many slots are looked at together without a branch: a block. The compiler takes sixteen of them in vector steps and the last one by
+// So many slots are looked at together without a branch: a block. The compiler takes eight of them in vector steps and the last one by
 // itself, since it does not load past it.
-const BLOCK_SLOTS: usize = 17;
+const BLOCK_SLOTS: usize = 9;
 
 // A word divided by this leaves its first two bytes: of a 2b map and instance.
 const TWO_BYTES: u32 = 0x1_0000;
