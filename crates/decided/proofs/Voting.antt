@@ -2,8 +2,8 @@
 --     small-ballot     a slot's ballot is a byte
 --     vote-other       a slot with no 2b of the instance and value
 --     vote-taken       one that counts: its acceptor joins
---     begins-word      by its first word, whether a slot begins as a 2b of the instance does
---     vote-none        one that does not
+--     vote-none        a slot that does not begin as a 2b of the instance does
+--     begins-word      whether it does, by its first word
 -- Assumes nothing.
 use Prim.Native.Nat.{ℕ, _+_, _/_, _%_, _<_}
 use mathlib.Core.Bool.{Bool, true, false, _&&_, cond}
@@ -99,6 +99,12 @@ module _ (t : List ℕ) (at : ℕ) where
 
   -- `w` is the slot's first word, `y` that of a 2b of the instance without its other bytes
   module _ (i w y : ℕ) (of-w : WordFrom t at w) (of-y : Word map2b i 0 0 y) where
+    digits : w % 0x10000 ≡ y → (map ≡ map2b) × (byte 1 ≡ i)
+    digits same = (
+      omega (arith, same, of-w .sum, of-w .digit0, of-w .digit1, of-y .sum, of-y .digit0, of-y .digit1),
+      omega (arith, same, of-w .sum, of-w .digit0, of-w .digit1, of-y .sum, of-y .digit0, of-y .digit1),
+    )
+
     pub begins-word : eqb (w % 0x10000) y ≡ begins2b i t at
     unfolding begins2b
     begins-word = go (eqb map map2b) refl (eqb (byte 1) i) refl
@@ -106,7 +112,5 @@ module _ (t : List ℕ) (at : ℕ) where
         go : (a : Bool) → eqb map map2b ≡ a → (b : Bool) → eqb (byte 1) i ≡ b → eqb (w % 0x10000) y ≡ (a && b)
         go true e true f =
             eq-eqb (w % 0x10000) y (omega (arith, of-w .sum, of-w .digit0, of-w .digit1, of-y .sum, eqb-true map map2b e, eqb-true (byte 1) i f))
-        go true e false f =
-            ne-eqb (w % 0x10000) y (λ same. eqb-false (byte 1) i f (omega (arith, same, of-w .sum, of-w .digit0, of-w .digit1, of-y .sum, of-y .digit0, of-y .digit1)))
-        go false e b f =
-            ne-eqb (w % 0x10000) y (λ same. eqb-false map map2b e (omega (arith, same, of-w .sum, of-w .digit0, of-w .digit1, of-y .sum, of-y .digit0, of-y .digit1)))
+        go true e false f = ne-eqb (w % 0x10000) y (λ same. eqb-false (byte 1) i f (digits same .1))
+        go false e b f = ne-eqb (w % 0x10000) y (λ same. eqb-false map map2b e (digits same .0))

@@ -19,11 +19,11 @@ use Rattle.inbox.specs.Inbox.Votes.{Counts}
 abbrev pub blockSlots : ℕ
 blockSlots = 9
 
--- map and instance of the slot at an index
+-- the slot at an index begins as a 2b of the instance does: map, then instance
 unfoldable pub begins2b : ℕ → List ℕ → ℕ → Bool
 begins2b i t at = eqb (getD t at 0) map2b && eqb (getD t (at + 1) 0) i
 
--- `rest` is what is ahead after them
+-- what some slots further come to: `major`, they had a majority; `rest`, the messages ahead after these slots
 pub record Counted (p : Plan) (i v : ℕ) (ms : List Message) (masks : List ℕ) (rest : List Message) (major : Bool) : Type 0 where
   pub decides : major ≡ true → decided p ms i v ≡ true
   pub further : major ≡ false → Counts p i v ms masks rest

@@ -49,7 +49,7 @@ const BLOCK_SLOTS: usize = 9;
 // A word divided by this leaves its first two bytes: of a 2b map and instance.
 const TWO_BYTES: u32 = 0x1_0000;
 
-// Whether a slot begins as a 2b of the instance does.
+// Whether a slot begins as a 2b of the instance does. Four bytes are read, so that they are one load; the last two do not count.
 fn begins_2b(inbox: &[u8], at: usize, ins: u8) -> bool
     requires { ⌜ at + slotSize ≤ length (now inbox) ⌝ }
     ensures { λ r. ⌜ r ≡ begins2b ins (now (inbox .entry)) at ⌝ }
@@ -63,7 +63,7 @@ fn begins_2b(inbox: &[u8], at: usize, ins: u8) -> bool
     word % TWO_BYTES == slots::word(MAP_2B, ins, 0, 0)
 }
 
-// Whether a slot of a block does.
+// Whether one of a block's slots does, without a branch.
 fn any_2b(inbox: &[u8], place: usize, ins: u8) -> bool
     requires { ⌜ place + blockSlots ≤ length (now inbox) / slotSize ⌝ }
     ensures { λ r. ⌜ r ≡ forSome blockSlots (λ j. begins2b ins (now (inbox .entry)) ((place + j) * slotSize)) ⌝ }
@@ -87,7 +87,8 @@ fn gather_slots(
     value: u8,
     masks: &mut [u8; 256],
 ) -> bool
-    requires { ⌜ (isPlan plan ≡ true) × (from ≤ to) × (to ≤ edge (now inbox)) × Counts plan ins value (peekMessages (now inbox)) (now masks) (ahead (now inbox) from) ⌝ }
+    requires { ⌜ (isPlan plan ≡ true) × (from ≤ to) × (to ≤ edge (now inbox)) ×
+        Counts plan ins value (peekMessages (now inbox)) (now masks) (ahead (now inbox) from) ⌝ }
     ensures { λ r. ⌜ Counted plan ins value (peekMessages (now (inbox .entry))) (now (masks .exit)) (ahead (now (inbox .entry)) to) r ⌝ }
 {
     let mut place = from;

@@ -24,7 +24,7 @@ use slots::Place;
 use slots::Send;
 use slots::Store;
 
-// Kind 4: 14 where the message is not in the inbox and there is no room.
+// Kind 4: 14 where the message is not in the inbox and there is no room. Only the place is asked for: the message would be copied with it.
 fn receipt_store(plan: Plan, inbox: &[u8], m: Message) -> Verdict
     ensures { λ r. ⌜ verdictOutcome r ≡ receiptStore (viewBytes plan (now (inbox .entry))) m ⌝ }
 {

@@ -14,7 +14,7 @@ use native.Mathlib.Omega.{arith}
 use Rattle.slots.specs.Table.{slotSize}
 use Rattle.slots.specs.Table.Words.{WordFrom}
 use Rattle.search.specs.Words.{lowHalf}
-use Rattle.search.specs.Blocks.{NoneBegins, Is, NoneIs, Passed, Found}
+use Rattle.search.specs.Blocks.{NoneBegins, IsForm, NoneIsForm, Passed, Found}
 
 module _ (t : List ℕ) (head from : ℕ) where
   pub begins-none : NoneBegins t head from from
@@ -31,13 +31,13 @@ module _ (t : List ℕ) (head from : ℕ) where
       }
 
 module _ (t : List ℕ) (form from : ℕ) where
-  pub begins-form : (to : ℕ) → NoneBegins t (lowHalf form) from to → NoneIs t form from to
+  pub begins-form : (to : ℕ) → NoneBegins t (lowHalf form) from to → NoneIsForm t form from to
   begins-form to none k l m is = none .each k l m (is .first)
 
   pub passed-start : (end : ℕ) → from ≤ end → Passed t form from end from
   passed-start end h = record { after = le-refl from; before = h; others = λ k l m. absurd (omega arith) }
 
-  pub passed-more : (end place to : ℕ) → place ≤ to → to ≤ end → Passed t form from end place → NoneIs t form place to → Passed t form from end to
+  pub passed-more : (end place to : ℕ) → place ≤ to → to ≤ end → Passed t form from end place → NoneIsForm t form place to → Passed t form from end to
   passed-more end place to on in-end p more =
       record {
         after = omega (arith, p .after);
@@ -45,21 +45,21 @@ module _ (t : List ℕ) (form from : ℕ) where
         others = λ k l m. elim (decLe place k) [ yes h ↦ more k h m | no h ↦ p .others k l (omega arith) ];
       }
 
-  pub none-next : (to : ℕ) → NoneIs t form from to → (Is t form to → ⊥) → NoneIs t form from (to + 1)
+  pub none-next : (to : ℕ) → NoneIsForm t form from to → (IsForm t form to → ⊥) → NoneIsForm t form from (to + 1)
   none-next to before differs k l m =
       elim (ℕ-discrete k to) [
         | yes e ↦ λ is. differs (rw e at is)
         | no n ↦ before k l (omega arith)
       ]
 
-  pub passed-one : (end place : ℕ) → place < end → Passed t form from end place → (Is t form place → ⊥) → Passed t form from end (place + 1)
+  pub passed-one : (end place : ℕ) → place < end → Passed t form from end place → (IsForm t form place → ⊥) → Passed t form from end (place + 1)
   passed-one end place in-end p differs =
       record { after = omega (arith, p .after); before = omega arith; others = none-next place (p .others) differs }
 
   pub found-end : (end place : ℕ) → end ≤ place → Passed t form from end place → Found t form from end place
   found-end end place h p = record { passed = p; is = λ l. absurd (lt-irrefl place (lt-of-lt-of-le l h)) }
 
-  pub found-here : (end place : ℕ) → Passed t form from end place → Is t form place → Found t form from end place
+  pub found-here : (end place : ℕ) → Passed t form from end place → IsForm t form place → Found t form from end place
   found-here end place p is = record { passed = p; is = λ l. is }
 
 -- a row that begins before the end has a slot

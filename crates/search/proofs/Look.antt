@@ -24,7 +24,7 @@ use Rattle.slots.specs.Table.Edge.{near-below, edge-within, edge-at, edge-on, l
 use Rattle.slots.proofs.Eight.{eight, slot-eight}
 use Rattle.search.specs.Words.{EightFrom}
 use Rattle.search.specs.Words.Laws.{same-bytes, same-number, eight-of}
-use Rattle.search.specs.Blocks.{Is, NoneIs, Found, Located}
+use Rattle.search.specs.Blocks.{IsForm, NoneIsForm, Found, Located}
 use Rattle.search.proofs.Blocks.{none-next}
 
 -- `slot` is the number of the eight bytes from `i` on
@@ -39,7 +39,7 @@ module _ {t : List ℕ} {i form slot : ℕ} (of-slot : EightFrom t i slot) where
 pub record Looked (t : List ℕ) (form k : ℕ) : Type 0 where
   pub from : nearEdge t ≤ k
   pub to : k ≤ edge t
-  pub others : NoneIs t form 0 k
+  pub others : NoneIsForm t form 0 k
 
 -- what looking from the slot at `k` on finds
 lookFrom : List ℕ → List ℕ → ℕ → Place
@@ -48,29 +48,29 @@ lookFrom t bytes k = locateFrom k (length t / slotSize) (drop k (slotsHeld t)) b
 -- `form` is the number of these bytes
 module _ (t : List ℕ) (form : ℕ) (bytes : List ℕ) (size : length bytes ≡ slotSize) (of-form : EightFrom bytes 0 form) where
   -- a slot is the form when it is these bytes
-  bytes-are : (k : ℕ) → k < edge t → Is t form k → getD (slots t) k [] ≡ bytes
+  bytes-are : (k : ℕ) → k < edge t → IsForm t form k → getD (slots t) k [] ≡ bytes
   bytes-are k h is = slot-eight t k (omega (arith, edge-within t)) ∙ same-bytes is of-form refl ∙ sym (eight bytes size)
 
-  is-bytes : (k : ℕ) → k < edge t → getD (slots t) k [] ≡ bytes → Is t form k
+  is-bytes : (k : ℕ) → k < edge t → getD (slots t) k [] ≡ bytes → IsForm t form k
   is-bytes k h e = eight-of (subst (λ (l : List ℕ). EightFrom l 0 form) (sym e ∙ slot-eight t k (omega (arith, edge-within t))) of-form)
 
   look-start : lookFrom t bytes 0 ≡ locate t bytes
   unfolding lookFrom locate
   look-start = refl
 
-  look-other : (k : ℕ) → k < edge t → (Is t form k → ⊥) → lookFrom t bytes (k + 1) ≡ lookFrom t bytes k
+  look-other : (k : ℕ) → k < edge t → (IsForm t form k → ⊥) → lookFrom t bytes (k + 1) ≡ lookFrom t bytes k
   unfolding lookFrom
   look-other k h differs =
       locateFrom-next _ (slotsHeld t) bytes k (rw (length-slotsHeld t) h)
       (rw (held-at t k h) (sameBytes-false _ _ (λ e. differs (is-bytes k h e))))
 
   -- none of the slots before it is the form
-  look-passed : (k : ℕ) → k ≤ edge t → NoneIs t form 0 k → lookFrom t bytes k ≡ locate t bytes
+  look-passed : (k : ℕ) → k ≤ edge t → NoneIsForm t form 0 k → lookFrom t bytes k ≡ locate t bytes
   look-passed zero h none = look-start
   look-passed (suc k) h none =
       rw (← add-one k) (look-other k h (none k zero-le (le-refl _)) ∙ look-passed k (omega arith) (λ j l m. none j l (omega arith)))
 
-  look-at : (k : ℕ) → k < edge t → Is t form k → At k ≡ lookFrom t bytes k
+  look-at : (k : ℕ) → k < edge t → IsForm t form k → At k ≡ lookFrom t bytes k
   unfolding lookFrom
   look-at k h is =
       sym (locateFrom-at _ (slotsHeld t) bytes k (rw (length-slotsHeld t) h)
@@ -85,7 +85,7 @@ module _ (t : List ℕ) (form : ℕ) (bytes : List ℕ) (size : length bytes ≡
   look-full k e h = sym (locateFrom-full _ (slotsHeld t) bytes k (rw (length-slotsHeld t) (le-of-eq e)) h)
 
 -- what looking from the slot at `k` on finds is the answer, where none of the slots before it is the form
-located : (t : List ℕ) (form k : ℕ) (r : Place) → k ≤ edge t → NoneIs t form 0 k
+located : (t : List ℕ) (form k : ℕ) (r : Place) → k ≤ edge t → NoneIsForm t form 0 k
     → ((bytes : List ℕ) → length bytes ≡ slotSize → EightFrom bytes 0 form → r ≡ lookFrom t bytes k)
     → Located t form r
 located t form k r h none here =
@@ -116,10 +116,10 @@ module _ {t : List ℕ} {form k : ℕ} (l : Looked t form k) where
       in-edge : k < edge t
       in-edge = edge-on t k (l .from) (l .to) h used
 
-      pub looked-at : Is t form k → Located t form (At k)
+      pub looked-at : IsForm t form k → Located t form (At k)
       looked-at is = located t form k _ (l .to) (l .others) (λ bytes size of-form. look-at t form bytes size of-form k in-edge is)
 
-      pub looked-next : (Is t form k → ⊥) → Looked t form (k + 1)
+      pub looked-next : (IsForm t form k → ⊥) → Looked t form (k + 1)
       looked-next differs = record { from = omega (arith, l .from); to = omega (arith, in-edge); others = none-next t form 0 k (l .others) differs }
 
 pub message-located : (p : Plan) (m : Message) {t : List ℕ} {form : ℕ} {r : Place} → EightFrom (slotOf p m) 0 form → Located t form r

@@ -1,6 +1,6 @@
 -- Slots that are passed, and the one that is found. The form is the number of eight bytes.
 --     NoneBegins     none of the slots from a place on begins with the word `head`
---     Is, NoneIs     the slot at a place is the form; none of the slots from a place on is
+--     IsForm, NoneIsForm     the slot at a place is the form; none of the slots from a place on is
 --     Passed         a place up to which that is so
 --     Found          the first slot that is the form, or the end
 --     Located        where eight bytes that are the form stand or go
@@ -20,23 +20,23 @@ pub record NoneBegins (t : List ℕ) (head from to : ℕ) : Type 0 where
   pub each : (k : ℕ) → from ≤ k → k < to → WordFrom t (k * slotSize) head → ⊥
 
 -- the slot at `k` is the form
-abbrev pub Is : List ℕ → ℕ → ℕ → Type 0
-Is t form k = EightFrom t (k * slotSize) form
+abbrev pub IsForm : List ℕ → ℕ → ℕ → Type 0
+IsForm t form k = EightFrom t (k * slotSize) form
 
 -- none of them is the form
-abbrev pub NoneIs : List ℕ → ℕ → ℕ → ℕ → Type 0
-NoneIs t form from to = (k : ℕ) → from ≤ k → k < to → Is t form k → ⊥
+abbrev pub NoneIsForm : List ℕ → ℕ → ℕ → ℕ → Type 0
+NoneIsForm t form from to = (k : ℕ) → from ≤ k → k < to → IsForm t form k → ⊥
 
 -- up to `r` none is
 pub record Passed (t : List ℕ) (form from end r : ℕ) : Type 0 where
   pub after : from ≤ r
   pub before : r ≤ end
-  pub others : NoneIs t form from r
+  pub others : NoneIsForm t form from r
 
 -- and the slot at `r` is, unless that is the end
 pub record Found (t : List ℕ) (form from end r : ℕ) : Type 0 where
   pub passed : Passed t form from end r
-  pub is : r < end → Is t form r
+  pub is : r < end → IsForm t form r
 
 -- `r` is where eight bytes that are the form stand or go
 pub record Located (t : List ℕ) (form : ℕ) (r : Place) : Type 0 where

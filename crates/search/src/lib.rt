@@ -191,7 +191,8 @@ pub fn locate_message(plan: Plan, table: &[u8], m: Message) -> Place
 }
 
 // Looks where the message stands or may be appended. It stores nothing yet: nothing is to be stored where an equal one stands. It calls
-// `locate_form` and not `locate_message`: with two callers the search is compiled once, and this goes into its callers.
+// `locate_form` itself, as `locate_message` does: a function with two callers stays out of line, so the search is compiled once and this
+// goes into its callers.
 pub fn send_message(plan: Plan, table: &[u8], m: Message) -> Send
     ensures { λ r. ⌜ r ≡ viewBytes plan (now (table .entry)) .send m ⌝ }
 {

@@ -1,7 +1,7 @@
 -- The part of I, or of the summary, that the code takes: `size` is a part's size.
---     partOf                          it
---     part-within, part-within-of     it lies within them
---     part-is                         it is leader l's
+--     partOf                          the part of leader l, as the code cuts it out
+--     part-within, part-within-of     it ends within the bytes
+--     part-is                         it is leader l's inbox, or leader l's bytes of the summary
 -- Assumes nothing.
 use Prim.Native.Nat.{ℕ, _+_, _-_, _*_, _/_, _≤_, _<_}
 use mathlib.Core.List.{List}

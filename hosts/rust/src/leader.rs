@@ -45,7 +45,8 @@ pub struct Leader<T = Vec<u8>> {
 }
 
 impl Leader {
-    /// A leader at the start of its order, all zeros, with so many slots in its network and in its inbox, at most 1,024.
+    /// A leader at the start of its order, all zeros, with so many slots in its network and in its inbox, at most 1,024: N's
+    /// count first, as in `Record::fresh`.
     /// It refuses `BadPlan` and `BadLengths`.
     ///
     /// ```
@@ -110,7 +111,8 @@ impl<T: AsRef<[u8]> + AsMut<[u8]>> Leader<T> {
 
     /// This leader's part of the summary: a byte for each instance. It has the bit
     /// [`Value::Prepared`](crate::Value::Prepared), 1, where the inbox decides prepared for the instance, and the bit
-    /// [`Value::Aborted`](crate::Value::Aborted), 2, where it decides aborted: so it is from zeros on.
+    /// [`Value::Aborted`](crate::Value::Aborted), 2, where it decides aborted. This holds where the
+    /// tables began as zeros.
     pub fn summary(&self) -> &[u8] {
         self.summary.as_ref()
     }

@@ -52,7 +52,8 @@ pub fn acceptor_step(plan: Plan, votes: &mut [u8], network: &mut [u8], event: &[
 
 /// The step of a leader: events of kinds 4 to 8. `inbox` is this leader's inbox alone, and `summary` its part of the
 /// summary, a byte for each instance; nothing ties them to the leader that the event names, nor to each other, which is
-/// the host's to see to. `Commit` and `Abort` read the summary alone, as it is.
+/// the host's to see to. `Commit` and `Abort` read the summary alone, as it is. [`Leader`](crate::Leader) holds these
+/// tables together.
 ///
 /// Refusals, in this order: `BadPlan`, `BadLengths`, `BadNetwork`, `BadInbox`, `BadSummary`, `BadEvent`, `NoMessage`,
 /// `WrongRole`, `NotOwned`, `NotEnabled`, `NetworkFull`, `InboxFull`.

@@ -80,10 +80,10 @@ impl System {
     fn happen(&mut self, happening: &Happening) -> Result<Answer, Refusal> {
         let (Happening::Call(role, k, _) | Happening::Delivery(role, k, _) | Happening::Restart(role, k, _)) =
             happening;
-        let by_type = (*role == Leader).then(|| by_type(self.plan, self.hosts[&(Leader, *k)].clone(), happening));
+        let typed = (*role == Leader).then(|| by_type(self.plan, self.hosts[&(Leader, *k)].clone(), happening));
         let answer = self.happen_to(*role, *k, happening);
-        if let Some(by_type) = by_type {
-            assert_eq!(by_type, (answer, self.hosts[&(Leader, *k)].clone()), "{happening:?}");
+        if let Some(typed) = typed {
+            assert_eq!(typed, (answer, self.hosts[&(Leader, *k)].clone()), "{happening:?}");
         }
         answer
     }

@@ -1,4 +1,4 @@
--- `decided::gather_votes` meets its contract: what was gathered and what is ahead make up what all messages say. Assumes nothing.
+-- `decided::gather_votes` meets its contract: a passed block leaves what was gathered, `gather_slots` says what another comes to. Assumes nothing.
 use Prim.Native.Nat.{_+_, _-_, _≤_}
 use mathlib.Core.Path.{sym, _∙_}
 use native.Mathlib.Nat.{le-of-eq}
@@ -59,8 +59,9 @@ loop-less c = search needs
 
 loop-again : tie.Need-loop-again Inv-loop μ-loop
 loop-again c =
-    let at-test = at-block (c .before .before .before .before) in
-    (omega (arith, at-test .before .loop .inv .0, at-test .loop-test .taken), c .before .gather-slots .ensures .further (c .if2 .left))
+    let at-slots = c .before in
+    let at-test = at-block (at-slots .before .before .before) in
+    (omega (arith, at-test .before .loop .inv .0, at-test .loop-test .taken), at-slots .gather-slots .ensures .further (c .if2 .left))
 
 loop-less-2 : tie.Need-loop-less-2 Inv-loop μ-loop
 loop-less-2 c = search needs

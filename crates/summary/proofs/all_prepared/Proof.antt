@@ -1,4 +1,4 @@
--- `summary::all_prepared` meets its contract: bit 0 of what is put together stands exactly where prepared does for each instance below `i`. Assumes nothing.
+-- `summary::all_prepared` meets its contract: bit 0 of `all` stands exactly where prepared does for each instance below `i`. Assumes nothing.
 use Prim.Native.Nat.{_-_, _%_, _≤_}
 use mathlib.Core.Path.{_≡_, refl}
 use lib.Dec.{eqb}

@@ -1,4 +1,4 @@
--- `summary::some_aborted` meets its contract: bit 1 of what is put together stands exactly where aborted does for some instance below `i`. Assumes nothing.
+-- `summary::some_aborted` meets its contract: bit 1 of `any` stands exactly where aborted does for some instance below `i`. Assumes nothing.
 use Prim.Native.Nat.{_-_, _/_, _%_, _≤_}
 use mathlib.Core.Path.{_≡_, refl}
 use native.Mathlib.Omega.{arith}
