@@ -1,5 +1,5 @@
 -- Storing in the part of I, or of the summary, that the code takes: it is leader l's (`part-is` of the crate `verdict`).
---     putPart, part-put     I with other bytes in that part
+--     putPart, part-put     I, or the summary, with other bytes in that part
 -- Assumes nothing.
 use Prim.Native.Nat.{ℕ, _+_, _-_, _*_, _/_}
 use mathlib.Core.List.{List}

@@ -1,6 +1,8 @@
 -- `record::store_in_inbox` meets its contract: the part of I that is lent is the leader's inbox, and is put back at its place. Assumes nothing.
+use Prim.Native.Nat.{_+_, _*_, _/_, _≤_}
 use mathlib.Core.Path.{refl}
 use native.Mathlib.Omega.{arith}
+use lib.ListN.{length}
 use borrow.Author.Needs.{needs}
 use Rattle.verdict.proofs.Inboxes.{part-within}
 use Rattle.record.proofs.Stepping.{kept-none, kept-part}
@@ -11,21 +13,25 @@ use Rattle.record.proofs.store_in_inbox.Tie as tie
 returns : tie.Need-returns
 returns c = kept-none _ _ _ _ (c .if1 .taken)
 
+-- from where the plan is known, past the first branch, to the start
+abbrev at-start : tie.After-struct-known2 → tie.Start
+at-start c = c .before .before .before .before
+
 -- the part lies within I
+inbox-within : (c : tie.After-struct-known2) → let size = length (at-start c .args .inboxes .now) / at-start c .args .plan .leaders in
+    at-start c .args .leader * size + size ≤ length (at-start c .args .inboxes .now)
+inbox-within c =
+    let start = at-start c in
+    part-within (start .args .plan) (start .args .inboxes .now) _ refl (start .args .leader) (c .before .if1 .left)
+
 mul-from : tie.Need-mul-from
-mul-from c =
-    let start = c .before .before .before .before in
-    omega (arith, part-within (start .args .plan) (start .args .inboxes .now) _ refl (start .args .leader) (c .before .if1 .left))
+mul-from c = omega (arith, inbox-within c)
 
 add-to : tie.Need-add-to
-add-to c =
-    let start = c .before .before .before .before in
-    omega (arith, part-within (start .args .plan) (start .args .inboxes .now) _ refl (start .args .leader) (c .before .if1 .left))
+add-to c = omega (arith, inbox-within c)
 
 part-inbox-end : tie.Need-part-inbox-end
-part-inbox-end c =
-    let start = c .before .before .before .before in
-    omega (arith, part-within (start .args .plan) (start .args .inboxes .now) _ refl (start .args .leader) (c .before .if1 .left))
+part-inbox-end c = omega (arith, inbox-within c)
 
 -- what was stored, put back
 returns-2 : tie.Need-returns-2
@@ -45,6 +51,9 @@ sub-inbox c = search needs
 part-inbox-start : tie.Need-part-inbox-start
 part-inbox-start c = search needs
 
+apply-store-requires : tie.Need-apply-store-requires
+apply-store-requires c κs = tt
+
 same-length : tie.Need-same-length
 same-length c = search needs
 
@@ -60,6 +69,6 @@ store-in-inbox-spec =
     sub-inbox
     part-inbox-start
     part-inbox-end
-    (λ c κs. tt)
+    apply-store-requires
     same-length
     returns-2)

@@ -16,6 +16,9 @@ Inv-loop summary n any₀ i₀ any i = (n ≤ length summary) × (i ≤ n) × (e
 abbrev μ-loop : tie.MeasureT-loop
 μ-loop summary n any₀ i₀ any i = n - i
 
+covered-requires : tie.Need-covered-requires Inv-loop μ-loop
+covered-requires c κs = tt
+
 loop-holds : tie.Need-loop-holds Inv-loop μ-loop
 unfolding forSome
 loop-holds c = (omega (arith, c .covered .ensures), search needs, refl)
@@ -45,7 +48,7 @@ some-aborted-spec =
     (tie.spec
     Inv-loop
     μ-loop
-    (λ c κs. tt)
+    covered-requires
     loop-holds
     shared-slice-read-any
     add-i
