@@ -6,11 +6,12 @@
 --                                tables; a list call's too
 --     same-opened                so it is from opening on
 --     plain-means                what the calls without a summary are (Plain.antt)
+--     plain-after, plain-counts  their answers, and the tables that they leave, one by one and as a whole; a list call by its single calls
 --     plain-without              whatever the summary holds, and of any length
 -- Assumes nothing.
 use Prim.Native.Nat.{ℕ, _+_, _-_, _*_, _<_}
 use mathlib.Core.Bool.{true}
-use mathlib.Core.List.{List, [], _∷_, map}
+use mathlib.Core.List.{List, [], _∷_, _++_, map}
 use mathlib.Core.Logic.{_⊎_, inl, inr, _↔_}
 use mathlib.Core.Path.{_≡_, refl, sym, _∙_, ap}
 use lib.ListN.{length, getD, drop, replicate}
@@ -36,13 +37,13 @@ use Rattle.matching.specs.Leader.{DecidedIn}
 use Rattle.matching.specs.Leader.Conditions.{decided-Decided, Decided-decided}
 use Rattle.batch.specs.Run.{eventsOf, tablesLeft, numbersOf, Run, recordRun}
 use Rattle.batch.specs.Run.Laws.{calls-keep}
-use Rattle.safety.specs.Lists.{Fresh, Call, event, counted, made, answers, tablesAfter}
+use Rattle.safety.specs.Lists.{Fresh, Call, event, run, countedFor, counted, made, answers, tablesAfter}
 use Rattle.safety.specs.Grounds.{seenBy}
 use Rattle.safety.specs.Grounds.Zeros.{getD-zeros}
 use Rattle.safety.specs.Grounds.Marks.{unheard-zeros, standing-zeros}
 use Rattle.safety.specs.Grounds.Steps.{Used, used-event}
 use Rattle.safety.specs.Theorems.{used-fresh, opening-fresh, opening-lengths}
-use Rattle.safety.specs.Plain.{plainCalls, plainJudged, plainRun, plainMade, plainAnswers, plainAfter}
+use Rattle.safety.specs.Plain.{plainCalls, plainJudged, plainRun, plainCounted, plainMade, plainAnswers, plainAfter}
 use Rattle.safety.specs.Plain.Laws.{Marked, marked-events, left-beside, answers-beside, run-same, made-same}
 
 -- one leader's bytes on a record that was opened and used
@@ -139,6 +140,27 @@ module _ (p : Plan) (t : Tables) where
       × ((events given : List ℕ) (k : ℕ) → plainJudged p t events given ≡ refused k
       → plainRun p t events given ≡ record { answer = refused k; tables = t; answers = given })
   plain-means = (refl, (λ e calls. refl), (λ events given is. rw is), λ events given k is. rw is)
+
+  -- the answers, and the tables in the end
+  pub plain-after :
+      (plainAnswers p t [] ≡ [])
+      × (plainAfter p t [] ≡ t)
+      × ((e : List ℕ) (calls : List Call)
+      → (plainAnswers p t (event e ∷ calls) ≡ plainStep p t e .answer ∷ plainAnswers p (plainStep p t e .tables) calls)
+      × (plainAfter p t (event e ∷ calls) ≡ plainAfter p (plainStep p t e .tables) calls))
+      × ((calls : List Call)
+      → (plainAnswers p t calls ≡ map (λ (r : RecordStep). r .answer) (plainMade p t calls))
+      × (plainAfter p t calls ≡ tablesLeft t (plainMade p t calls)))
+  plain-after = (refl, refl, (λ e calls. (refl, refl)), λ calls. (refl, refl))
+
+  -- a list call counts as its single calls, where it is accepted
+  pub plain-counts : (e : List ℕ) (es : List (List ℕ)) (events given : List ℕ) (calls : List Call)
+      → (plainMade p t calls ≡ plainCalls p t (plainCounted p t calls))
+      × (plainCounted p t (run events given ∷ calls)
+      ≡ countedFor (plainRun p t events given .answer) events ++ plainCounted p (plainRun p t events given .tables) calls)
+      × (plainCalls p t [] ≡ [])
+      × (plainCalls p t (e ∷ es) ≡ plainStep p t e ∷ plainCalls p (plainStep p t e .tables) es)
+  plain-counts e es events given calls = (refl, refl, refl, refl)
 
   -- they read no summary, and have no row 20
   pub plain-without : (s e events given : List ℕ)

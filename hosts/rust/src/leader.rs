@@ -122,7 +122,7 @@ impl<T: AsRef<[u8]> + AsMut<[u8]>> Leader<T> {
         self.network.as_ref()
     }
 
-    /// The eight bytes of a slot of N: a message followed by zeros, or eight zeros; `None` beyond N.
+    /// The eight bytes of a slot of N, in an N that the calls made a message followed by zeros, or eight zeros; `None` beyond N.
     pub fn slot(&self, slot: u16) -> Option<[u8; SLOT]> {
         self.network().as_chunks().0.get(usize::from(slot)).copied()
     }
