@@ -1,14 +1,12 @@
--- A list of events, event by event; and the whole call.
+-- A list of events, event by event.
 --     Running                               after i events: the answers so far and the single calls from here on are those from the start
 --     running-start, running-next, running-end
 --     event-within                          the next event lies within the list
---     run-stopped, run-cut, run-unsound     the judgement refuses; no list; no summary
---     run-judged, run-finished              all are sound; the events were run
 -- Assumes nothing.
 use Prim.Native.Nat.{ℕ, _+_, _-_, _*_, _≤_, _<_}
-use mathlib.Core.Bool.{true, false}
+use mathlib.Core.Bool.{true}
 use mathlib.Core.List.{List, [], _∷_, _++_}
-use mathlib.Core.Path.{_≡_, refl, sym, _∙_}
+use mathlib.Core.Path.{_≡_, refl, _∙_}
 use mathlib.Core.List.{append-nil}
 use native.Mathlib.Nat.{add-sub-cancel-left}
 use native.Mathlib.Numerals.{add-one}
@@ -16,17 +14,13 @@ use native.Mathlib.Omega.{arith}
 use lib.ListN.{length, set, take, drop, length-set, drop-of-length-le}
 use lib.Seq.{take-suc-set, take-all, append-snoc}
 use Rattle.message.specs.declared.Plan.{Plan}
-use Rattle.message.specs.Outcome.{accepted, refused, andThen, refuseIf, numberOf}
-use Rattle.opening.specs.Opening.{four}
-use Rattle.judging.specs.Judging.Four.{judged-four}
-use Rattle.record.specs.Record.{Tables, RecordStep, recordJudged, lentJudged, recordStep}
-use Rattle.record.specs.Record.Summary.{lent-judged}
-use Rattle.leader.specs.Leader.{isSummary}
+use Rattle.message.specs.Outcome.{accepted, numberOf}
+use Rattle.record.specs.Record.{Tables, RecordStep, lentJudged, recordStep}
 use Rattle.record.specs.Record.Applied.{recordApplied}
 use Rattle.record.proofs.Stepping.{step-applied}
 use Rattle.conformance.specs.Theorems.{record-sound}
-use Rattle.batch.specs.Run.{eventsOf, singleCalls, tablesLeft, numbersOf, Run, isList, runJudged, finishedRun, recordRun}
-use Rattle.batch.specs.Run.Laws.{is-list, events-at, run-bad}
+use Rattle.batch.specs.Run.{eventsOf, singleCalls, tablesLeft, numbersOf, Run, isList, finishedRun}
+use Rattle.batch.specs.Run.Laws.{is-list, events-at}
 
 -- a list call that was accepted
 abbrev runAs : Tables → List ℕ → Run
@@ -69,7 +63,12 @@ module _ (p : Plan) (t₀ : Tables) (events : List ℕ) where
           judged = rw called (record-sound p t e (r .judged));
           tables = rw called (rw split at (r .tables));
           answered =
-              rw (taken, number, called, append-snoc (take i answers) (numberOf (recordStep p t e .answer)) (numbersOf (rest p events (recordStep p t e .tables) (i + 1))))
+              rw (
+                taken,
+                number,
+                called,
+                append-snoc (take i answers) (numberOf (recordStep p t e .answer)) (numbersOf (rest p events (recordStep p t e .tables) (i + 1))),
+              )
               (rw split at (r .answered));
         }
 
@@ -80,32 +79,3 @@ module _ (p : Plan) (t₀ : Tables) (events : List ℕ) where
         let none = drop-of-length-le events past in
         let all = take-all i answers h in
         same-run (rw none at (r .tables)) (rw (none, append-nil (take i answers), all) at (r .answered))
-
--- the whole call
-module _ (p : Plan) (t : Tables) (events answers : List ℕ) where
-  pub run-stopped : (k : ℕ) → refused k ≡ recordJudged p (four t) → record { answer = refused k; tables = t; answers = answers } ≡ recordRun p t events answers
-  run-stopped k h = sym (run-bad p t events answers k (sym (h ∙ judged-four p t)))
-
-  module _ (of-four : accepted tt ≡ recordJudged p (four t)) where
-    ok : accepted tt ≡ recordJudged p t
-    ok = of-four ∙ judged-four p t
-
-    pub run-cut : isList events answers ≡ false → record { answer = refused 19; tables = t; answers = answers } ≡ recordRun p t events answers
-    unfolding recordRun runJudged andThen refuseIf
-    run-cut cut = rw (← ok, cut)
-
-    module _ (is : isList events answers ≡ true) (count : ℕ) (of-count : count ≡ p .rms * p .leaders) where
-      pub run-unsound : isSummary count (t .summary) ≡ false → record { answer = refused 20; tables = t; answers = answers } ≡ recordRun p t events answers
-      unfolding recordRun runJudged andThen refuseIf
-      run-unsound bad = let none : isSummary (p .rms * p .leaders) (t .summary) ≡ false = rw (← of-count) bad in rw (← ok, is, none)
-
-      module _ (right : isSummary count (t .summary) ≡ true) where
-        whole : isSummary (p .rms * p .leaders) (t .summary) ≡ true
-        whole = rw (← of-count) right
-
-        pub run-judged : lentJudged p t ≡ accepted tt
-        run-judged = lent-judged p t (sym ok) whole
-
-        pub run-finished : (r : Run) → r ≡ finishedRun p t events → r ≡ recordRun p t events answers
-        unfolding recordRun runJudged andThen refuseIf
-        run-finished r done = rw (← ok, is, whole) done

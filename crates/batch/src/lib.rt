@@ -1,15 +1,16 @@
 // A list of events on one record (document 02, Papers 2 and 5): the tables are judged once, then the events run in order.
 //
 //     is_list        row 19 of "Refusals by place"
+//     judge_list     rows 1 to 6, then 19, then 20
 //     run_events     the events one after the other, on a record that was judged
 //     run            the list call
 //
 // It is lent W (`states`), Q (`votes`), N (`network`), I (`inboxes`), the summary and the answers, one byte an event, of any content and length.
 ghost use mathlib.Core.Bool.{true};
 ghost use mathlib.Core.Path.{_≡_};
-ghost use Rattle.message.specs.Outcome.{accepted};
+ghost use Rattle.message.specs.Outcome.{accepted, numberOf};
 ghost use Rattle.record.specs.Record.{tablesOf, lentJudged};
-ghost use Rattle.batch.specs.Run.{isList, runOf, finishedRun, recordRun};
+ghost use Rattle.batch.specs.Run.{isList, runJudged, runOf, finishedRun, recordRun};
 use change::Judged;
 use event::EVENT_SIZE;
 use message::Plan;
@@ -19,6 +20,35 @@ fn is_list(events: &[u8], answers: &[u8]) -> bool
     ensures { λ r. ⌜ r ≡ isList (now (events .entry)) (now (answers .entry)) ⌝ }
 {
     (events.len() % EVENT_SIZE == 0) & (answers.len() == events.len() / EVENT_SIZE)
+}
+
+// What the list call judges before the first event, as a number: 1 to 6 for the plan and the tables, then 19, then 20 for the summary; 0 where
+// all is sound.
+fn judge_list(
+    plan: Plan,
+    states: &[u8],
+    votes: &[u8],
+    network: &[u8],
+    inboxes: &[u8],
+    summary: &[u8],
+    events: &[u8],
+    answers: &[u8],
+) -> u8
+    ensures { λ r. ⌜ r ≡ numberOf (runJudged plan
+        (tablesOf (now (states .entry)) (now (votes .entry)) (now (network .entry)) (now (inboxes .entry)) (now (summary .entry)))
+        (now (events .entry)) (now (answers .entry))) ⌝ }
+{
+    let number = change::judged_number(judging::judge(plan, states, votes, network, inboxes));
+    if number != 0 {
+        return number;
+    }
+    if !is_list(events, answers) {
+        return 19;
+    }
+    if !summary::is_summary(summary, plan.rms as usize * plan.leaders as usize) {
+        return 20;
+    }
+    0
 }
 
 // The events one after the other, on a record that was judged: it stays sound, so no table is judged again.
@@ -62,27 +92,28 @@ pub fn run(
     ensures { λ r. ⌜ runOf r (tablesOf (now (states .exit)) (now (votes .exit)) (now (network .exit)) (now (inboxes .exit)) (now (summary .exit))) (now (answers .exit)) ≡
         recordRun plan (tablesOf (now (states .entry)) (now (votes .entry)) (now (network .entry)) (now (inboxes .entry)) (now (summary .entry))) (now (events .entry)) (now (answers .entry)) ⌝ }
 {
-    let judged = judging::judge(plan, states, votes, network, inboxes);
-    match judged {
-        Judged::Refused(number) => Judged::Refused(number),
-        Judged::Sound => {
-            if !is_list(events, answers) {
-                return Judged::Refused(19);
-            }
-            if !summary::is_summary(summary, plan.rms as usize * plan.leaders as usize) {
-                return Judged::Refused(20);
-            }
-            run_events(
-                plan,
-                states,
-                votes,
-                network,
-                inboxes,
-                summary,
-                events,
-                answers,
-            );
-            Judged::Sound
-        }
+    let number = judge_list(
+        plan,
+        states,
+        votes,
+        network,
+        inboxes,
+        summary,
+        events,
+        answers,
+    );
+    if number != 0 {
+        return Judged::Refused(number);
     }
+    run_events(
+        plan,
+        states,
+        votes,
+        network,
+        inboxes,
+        summary,
+        events,
+        answers,
+    );
+    Judged::Sound
 }

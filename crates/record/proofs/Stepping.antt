@@ -1,11 +1,11 @@
 -- From the judgement of the plan and the four tables to the whole call.
---     step-refused                                a judgement that refuses
+--     lent-refused, lent-unsound, lent-whole      1 to 6; 20; all that is lent is sound
 --     kept-none, kept-part, marked-part           storing in an inbox, and marking a leader's bytes
 --     update-states, update-votes, update-inbox   an update of each table
 --     apply-refused, apply-accepted               the two ways out of `apply`
 --     performed-refused, -other, -receipt         what was evaluated is applied and, of a receipt, marked; receiver, that its leader is one
---     step-unsound                                a summary that is none
---     step-applied, step-performed                on a judged record that is the event call
+--     step-applied                                on a judged record that is the event call
+--     step-refused, step-performed                the whole call: the judgement refuses; it does not
 -- Assumes nothing.
 use Prim.Native.Nat.{ℕ, _+_, _*_, _/_, _≤_, _<_}
 use mathlib.Core.Bool.{Bool, true, false, not}
@@ -34,7 +34,9 @@ use Rattle.change.specs.declared.Update as UpdateType
 use Rattle.change.specs.declared.Update.the-variants.{State, Vote, Inbox}
 use Rattle.change.specs.declared.Verdict.{Verdict}
 use Rattle.change.specs.declared.Verdict.the-variants as Verdicts
-use Rattle.change.specs.Change.{Step, answerOutcome, verdictOutcome, updated, applied}
+use Rattle.change.specs.declared.Judged.{Judged}
+use Rattle.change.specs.declared.Judged.the-variants as Judgements
+use Rattle.change.specs.Change.{Step, answerOutcome, judgedOutcome, verdictOutcome, updated, applied}
 use Rattle.change.specs.Change.Updates.{IsState, IsVote, IsInbox, Changes}
 use Rattle.rm.specs.Rm.{rmVerdict}
 use Rattle.rm.specs.Rm.Updates.{rm-changes}
@@ -60,8 +62,26 @@ use Rattle.record.specs.Record.{RecordStep, recordStepOf, recordRefusal,
 use Rattle.record.specs.Record.Applied.{keptInbox, changed, appliedTo, recordApplied}
 use Rattle.record.specs.Record.Laws.{sound, judged-rm, judged-acceptor, judged-leader}
 use Rattle.record.specs.Record.Parts.{length-inboxOf, inboxOf-with, with-inboxOf}
-use Rattle.record.specs.Record.Summary.{marking-refused, marking-other, lent-judged, lent-sound}
+use Rattle.record.specs.Record.Summary.{marking-refused, marking-other, lent-sound}
 use Rattle.record.proofs.Inboxes.{putPart, part-put}
+
+-- the judgement of all that is lent, after that of the plan and the four tables
+module _ (p : Plan) (t : Tables) (judged : Judged) (of-judged : judgedOutcome judged ≡ recordJudged p (four t)) where
+  four-is : (j : Judged) → judged ≡ j → recordJudged p t ≡ judgedOutcome j
+  four-is j told = sym (judged-four p t) ∙ sym of-judged ∙ ap judgedOutcome told
+
+  pub lent-refused : (k : ℕ) → judged ≡ Judgements.Refused k → judgedOutcome judged ≡ lentJudged p t
+  unfolding lentJudged andThen
+  lent-refused k told = rw (told, four-is (Judgements.Refused k) told)
+
+  module _ (told : judged ≡ Judgements.Sound) (count : ℕ) (of-count : count ≡ p .rms * p .leaders) where
+    pub lent-unsound : isSummary count (t .summary) ≡ false → refused 20 ≡ lentJudged p t
+    unfolding lentJudged andThen refuseIf
+    lent-unsound none = rw (four-is Judgements.Sound told, ← of-count, none)
+
+    pub lent-whole : isSummary count (t .summary) ≡ true → accepted tt ≡ lentJudged p t
+    unfolding lentJudged andThen refuseIf
+    lent-whole whole = rw (four-is Judgements.Sound told, ← of-count, whole)
 
 -- storing in an inbox
 module _ (p : Plan) (i : List ℕ) (l : ℕ) (store : Store) where
@@ -210,15 +230,6 @@ module _ (p : Plan) (l : ℕ) (t : Tables) where
       ap (λ (x : Tables). record { answer = accepted (c .sent); tables = x }) (inbox-changed own (c .table) h (storeBytes p (c .network) (t .network)))
 
 module _ (p : Plan) (t : Tables) (e : List ℕ) where
-  pub step-refused : (k : ℕ) → refused k ≡ recordJudged p (four t) → recordRefusal t k ≡ recordStep p t e
-  unfolding recordStep lentJudged andThen
-  step-refused k h = rw (← judged-four p t, ← h)
-
-  pub step-unsound : accepted tt ≡ recordJudged p (four t) → (count : ℕ) → count ≡ p .rms * p .leaders → isSummary count (t .summary) ≡ false
-      → recordRefusal t 20 ≡ recordStep p t e
-  unfolding recordStep lentJudged andThen refuseIf
-  step-unsound ok count of-count bad = let none : isSummary (p .rms * p .leaders) (t .summary) ≡ false = rw (← of-count) bad in rw (← judged-four p t, ← ok, none)
-
   module _ (ok : recordJudged p t ≡ accepted tt) where
     role-applied : isEvent p e ≡ true → appliedTo p (whoOf e) t (recordVerdict p t e) ≡ roleStep p (bySummary p t) t e
     unfolding recordVerdict refuseIf roleStep
@@ -299,6 +310,12 @@ module _ (p : Plan) (t : Tables) (e : List ℕ) where
           let none : appliedTo p (whoOf e) t (recordVerdict p t e) ≡ recordRefusal t 7 = rw (← no-event p t e is) in
           rw ok (ap (marking p (decidedBytes p) (viewBytes p) e) none ∙ marking-refused p (decidedBytes p) (viewBytes p) e (recordRefusal t 7) 7 refl)
 
-  pub step-performed : accepted tt ≡ recordJudged p (four t) → (count : ℕ) → count ≡ p .rms * p .leaders → isSummary count (t .summary) ≡ true
-      → (s : RecordStep) → s ≡ recordApplied p t e → s ≡ recordStep p t e
-  step-performed ok count of-count whole s done = done ∙ step-applied (lent-judged p t (sym (ok ∙ judged-four p t)) (rw (← of-count) whole))
+  -- the whole call, after its judgement
+  module _ (judged : Judged) (of-judged : judgedOutcome judged ≡ lentJudged p t) where
+    pub step-refused : (k : ℕ) → judged ≡ Judgements.Refused k → recordRefusal t k ≡ recordStep p t e
+    unfolding recordStep andThen
+    step-refused k told = rw (← of-judged, told)
+
+    pub step-performed : judged ≡ Judgements.Sound → (answer : Answer) (u : Tables)
+        → recordStepOf answer u ≡ recordApplied p t e → recordStepOf answer u ≡ recordStep p t e
+    step-performed told answer u done = done ∙ step-applied (sym of-judged ∙ ap judgedOutcome told)

@@ -7,16 +7,17 @@
 //     apply            stores what a verdict accepts, and answers
 //     mark_part        marks a leader's bytes of the summary, a part of it as its inbox is of I
 //     perform          the step of the event's role: `verdict::evaluate`, then `apply`, then the mark; it judges the event but no table
-//     step             the event call: `judging::judge`, the summary, then `perform`
+//     judge_lent       rows 1 to 6, then 20: `judging::judge`, then the summary
+//     step             the event call: `judge_lent`, then `perform`
 //
 // Each is lent what it changes of W (`states`), Q (`votes`), N (`network`), I (`inboxes`) and the summary, of any content and length.
 ghost use mathlib.Core.List.{List};
 ghost use mathlib.Core.Path.{_≡_};
 ghost use Prim.Native.Nat.{ℕ, _<_};
 ghost use Rattle.slots.specs.View.Bytes.{viewBytes};
-ghost use Rattle.change.specs.Change.{verdictOutcome};
+ghost use Rattle.change.specs.Change.{judgedOutcome, verdictOutcome};
 ghost use Rattle.summary.specs.Summary.{markedAt, decidedBytes};
-ghost use Rattle.record.specs.Record.{tablesOf, inboxOf, withInbox, recordStepOf, recordStep};
+ghost use Rattle.record.specs.Record.{tablesOf, inboxOf, withInbox, lentJudged, recordStepOf, recordStep};
 ghost use Rattle.record.specs.Record.Applied.{keptInbox, changed, appliedTo, recordApplied};
 use change::Answer;
 use change::Judged;
@@ -134,7 +135,29 @@ pub fn perform(
     Answer::Accepted(sent)
 }
 
-// The event call: what `judging::judge` refuses, then 20 for the summary, and then as `perform`; a refusal changes no byte.
+// What the event call judges of all that is lent: what `judging::judge` refuses, then 20 for the summary.
+fn judge_lent(
+    plan: Plan,
+    states: &[u8],
+    votes: &[u8],
+    network: &[u8],
+    inboxes: &[u8],
+    summary: &[u8],
+) -> Judged
+    ensures { λ r. ⌜ judgedOutcome r ≡ lentJudged plan
+        (tablesOf (now (states .entry)) (now (votes .entry)) (now (network .entry)) (now (inboxes .entry)) (now (summary .entry))) ⌝ }
+{
+    let judged = judging::judge(plan, states, votes, network, inboxes);
+    let Judged::Sound = judged else {
+        return judged;
+    };
+    if !summary::is_summary(summary, plan.rms as usize * plan.leaders as usize) {
+        return Judged::Refused(20);
+    }
+    Judged::Sound
+}
+
+// The event call: what `judge_lent` refuses, and then as `perform`; a refusal changes no byte.
 pub fn step(
     plan: Plan,
     states: &mut [u8],
@@ -147,14 +170,9 @@ pub fn step(
     ensures { λ r. ⌜ recordStepOf r (tablesOf (now (states .exit)) (now (votes .exit)) (now (network .exit)) (now (inboxes .exit)) (now (summary .exit))) ≡
         recordStep plan (tablesOf (now (states .entry)) (now (votes .entry)) (now (network .entry)) (now (inboxes .entry)) (now (summary .entry))) (now (event .entry)) ⌝ }
 {
-    let judged = judging::judge(plan, states, votes, network, inboxes);
+    let judged = judge_lent(plan, states, votes, network, inboxes, summary);
     match judged {
         Judged::Refused(number) => Answer::Refused(number),
-        Judged::Sound => {
-            if !summary::is_summary(summary, plan.rms as usize * plan.leaders as usize) {
-                return Answer::Refused(20);
-            }
-            perform(plan, states, votes, network, inboxes, summary, event)
-        }
+        Judged::Sound => perform(plan, states, votes, network, inboxes, summary, event),
     }
 }

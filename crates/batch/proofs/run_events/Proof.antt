@@ -1,10 +1,10 @@
 -- `batch::run_events` meets its contract: one event further, the answers so far and the calls that are left come to the same. Assumes nothing.
 use Prim.Native.Nat.{_-_}
-use mathlib.Core.Path.{_≡_, refl}
+use mathlib.Core.Path.{_≡_, refl, _∙_}
 use native.Mathlib.Omega.{arith}
-use lib.ListN.{length}
+use lib.ListN.{length, length-set}
 use borrow.Author.Needs.{needs}
-use Rattle.record.specs.Record.{tablesOf}
+use Rattle.record.specs.Record.{Tables, tablesOf, recordStepOf}
 use Rattle.batch.proofs.Running.{Running, running-start, event-within, running-next, running-end}
 use Rattle.batch.proofs.run_events.Statement.{statement}
 use Rattle.batch.proofs.run_events.Tie as tie
@@ -51,28 +51,43 @@ part-event-end c =
     let at-loop = c .before .loop in
     event-within _ _ _ _ _ _ (at-loop .inv .0) (c .loop-test .taken)
 
--- one event further
+-- one event further: the loop's test, what was performed, and the tables as it left them
 abbrev performed : tie.After-answer-number Inv-loop μ-loop → tie.After-perform Inv-loop μ-loop
 performed c = c .before .before .before .before .before .before .before .before .before .before .before
 
+abbrev tested : tie.After-answer-number Inv-loop μ-loop → tie.In-loop Inv-loop μ-loop
+tested c = performed c .before .before .before .before .before .before .before
+
+abbrev left : tie.After-perform Inv-loop μ-loop → Tables
+left c =
+    tablesOf (c .perform .last .1 .0) (c .perform .last .1 .1 .0) (c .perform .last .1 .1 .1 .0) (c .perform .last .1 .1 .1 .1 .0)
+    (c .perform .last .1 .1 .1 .1 .1 .0)
+
 slice-write-answers : tie.Need-slice-write-answers Inv-loop μ-loop
-slice-write-answers c =
-    let at-event = performed c .before .before .before .before .before .before .before in
-    at-event .loop-test .taken
+slice-write-answers c = tested c .loop-test .taken
 
 add-i : tie.Need-add-i Inv-loop μ-loop
 add-i c =
-    let at-event = performed c .before .before .before .before .before .before .before in
-    search (needs, at-event .loop-test .taken, at-event .before .loop .inv .6)
+    let test = performed c .before .before .before .before .before .before .before in
+    search (needs, test .loop-test .taken, test .before .loop .inv .6)
 
 loop-less : tie.Need-loop-less Inv-loop μ-loop
 loop-less c = search needs
 
 loop-again : tie.Need-loop-again Inv-loop μ-loop
 loop-again c =
-    let at-event = performed c .before .before .before .before .before .before .before in
-    let next = running-next _ _ _ _ _ _ (at-event .before .loop .inv .0) (at-event .loop-test .taken) _ (performed c .perform .ensures) _ (c .answer-number .ensures) in
-    (next, search needs, search needs, search needs, search needs, search needs, search needs)
+    let loop = tested c .before .loop in
+    let kept = performed c .perform .kept in (
+      running-next _ _ _ _ _ _ (loop .inv .0) (tested c .loop-test .taken)
+          (recordStepOf (performed c .perform .result) (left (performed c))) (performed c .perform .ensures)
+          (c .answer-number .result) (c .answer-number .ensures),
+      kept .1 .0 ∙ loop .inv .1,
+      kept .1 .1 .0 ∙ loop .inv .2,
+      kept .1 .1 .1 .0 ∙ loop .inv .3,
+      kept .1 .1 .1 .1 .0 ∙ loop .inv .4,
+      kept .1 .1 .1 .1 .1 .0 ∙ loop .inv .5,
+      length-set (loop .answers) (loop .i) (c .answer-number .result) ∙ loop .inv .6,
+    )
 
 -- the list's end
 returns : tie.Need-returns Inv-loop μ-loop

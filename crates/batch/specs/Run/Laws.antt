@@ -150,20 +150,18 @@ module _ (p : Plan) (t : Tables) (events answers : List ℕ) where
       let each : length answers ≡ length events / 4 = omega arith in
       list-judged (rw (eq-eqb _ _ cut, eq-eqb _ _ each))
 
-  pub run-sound : recordRun p t events answers .answer ≡ accepted tt → lentJudged p t ≡ accepted tt
+  pub judged-list : runJudged p t events answers ≡ accepted tt → isList events answers ≡ true
   unfolding runJudged andThen refuseIf
-  run-sound is = go (isList events answers) refl
+  judged-list = go (recordJudged p t) (isList events answers)
     where
-      none : (o : Outcome (Unit {0})) → andThen {B = Unit {0}} o (λ _. refused 19) ≡ accepted tt → ⊥
-      none (accepted u) h = accepted-not-refused h
-      none (refused k) h = accepted-not-refused h
+      go : (o : Outcome (Unit {0})) (b : Bool)
+          → andThen o (λ _. refuseIf (not b) 19 (refuseIf (not (isSummary (p .rms * p .leaders) (t .summary))) 20 (accepted tt))) ≡ accepted (tt {0}) → b ≡ true
+      go (accepted u) true h = refl
+      go (accepted u) false h = absurd (accepted-not-refused h)
+      go (refused k) b h = absurd (accepted-not-refused h)
 
-      cut : isList events answers ≡ false → runJudged p t events answers ≡ andThen (recordJudged p t) (λ _. refused 19)
-      cut list = rw list
-
-      go : (b : Bool) → isList events answers ≡ b → lentJudged p t ≡ accepted tt
-      go true list = sym (list-judged list) ∙ sym answer-judged ∙ is
-      go false list = absurd (none (recordJudged p t) (sym (cut list) ∙ sym answer-judged ∙ is))
+  pub run-sound : recordRun p t events answers .answer ≡ accepted tt → lentJudged p t ≡ accepted tt
+  run-sound is = let ok = sym answer-judged ∙ is in sym (list-judged (judged-list ok)) ∙ ok
 
   pub run-whole : lentJudged p t ≡ accepted tt → length events ≡ 4 * length answers → recordRun p t events answers ≡ finishedRun p t events
   unfolding recordRun

@@ -7,11 +7,18 @@ use Rattle.record.proofs.apply.Tie as tie
 returns : tie.Need-returns
 returns c s = apply-refused _ _ _ _ _ _ (c .before .enum-told .given .1) (c .verdict-number .ensures)
 
+-- what was stored in N, and before it in the table
+abbrev sent : tie.After-slice-known8 → tie.After-apply-store
+sent c = c .before .before
+
+abbrev updated : tie.After-slice-known8 → tie.After-update-table
+updated c = sent c .before .before .before .before .before .before .before .before
+
 returns-2 : tie.Need-returns-2
 returns-2 c s =
-    let sent = c .before .before in
-    let stored = sent .before .before .before .before .before .before .before .before in
-    apply-accepted _ _ _ _ _ (stored .before .before .before .before .before .verdict .given .1) _ _ _ _ (stored .update-table .ensures) (sent .apply-store .ensures)
+    let stored = updated c in
+    apply-accepted _ _ _ _ _ (stored .before .before .before .before .before .verdict .given .1)
+    _ _ _ _ (stored .update-table .ensures) (sent c .apply-store .ensures)
 
 enum-known-verdict : tie.Need-enum-known-verdict
 enum-known-verdict c = search needs
@@ -20,16 +27,16 @@ enum-told : tie.Need-enum-told
 enum-told c = search needs
 
 same-length : tie.Need-same-length
-same-length c = search needs
+same-length c = updated c .update-table .kept .1 .0
 
 same-length-2 : tie.Need-same-length-2
-same-length-2 c = search needs
+same-length-2 c = updated c .update-table .kept .1 .1 .0
 
 same-length-3 : tie.Need-same-length-3
-same-length-3 c = search needs
+same-length-3 c = sent c .apply-store .kept .1 .0
 
 same-length-4 : tie.Need-same-length-4
-same-length-4 c = search needs
+same-length-4 c = updated c .update-table .kept .1 .1 .1 .0
 
 pub apply-spec : {M : Type 1} → statement M
 apply-spec =

@@ -30,13 +30,13 @@ enum-known-update-3 : tie.Need-enum-known-update-3
 enum-known-update-3 c = search needs
 
 same-length : tie.Need-same-length
-same-length c = search needs
+same-length c = c .before .before .set-byte .kept .0
 
 same-length-2 : tie.Need-same-length-2
-same-length-2 c = search needs
+same-length-2 c = c .before .before .set-vote .kept .0
 
 same-length-3 : tie.Need-same-length-3
-same-length-3 c = search needs
+same-length-3 c = c .before .before .store-in-inbox .kept .1 .0
 
 pub update-table-spec : {M : Type 1} → statement M
 update-table-spec =
