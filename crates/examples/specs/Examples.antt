@@ -172,7 +172,9 @@ pub summary-examples :
     × (marks (slot2b 0 0 ++ slot2b 1 0) (0 ∷ []) (slot2b 1 0) (4 ∷ 0 ∷ 0 ∷ 0 ∷ []) ≡ record { answer = accepted Quiet; summary = 1 ∷ [] })
     × (marks (slot2b 0 0 ++ free) (2 ∷ []) (slot2b 1 0) (4 ∷ 0 ∷ 0 ∷ 0 ∷ []) ≡ record { answer = accepted Quiet; summary = 3 ∷ [] })
     × (marks (slot2b 0 0) (0 ∷ []) (slot2b 1 0) (4 ∷ 0 ∷ 0 ∷ 0 ∷ []) ≡ record { answer = refused 14; summary = 0 ∷ [] })
-    × (leaderStep (record { rms = 2; acceptors = 1; leaders = 1; order = 0x0102 }) (slot2b 0 0 ++ free) (0 ∷ 0 ∷ []) (0x3B ∷ 1 ∷ 0 ∷ 0 ∷ 2 ∷ 1 ∷ 2 ∷ 0 ∷ []) (4 ∷ 0 ∷ 0 ∷ 0 ∷ []) .summary ≡ 0 ∷ 2 ∷ [])
+    × (leaderStep (record { rms = 2; acceptors = 1; leaders = 1; order = 0x0102 }) (slot2b 0 0 ++ free) (0 ∷ 0 ∷ [])
+    (0x3B ∷ 1 ∷ 0 ∷ 0 ∷ 2 ∷ 1 ∷ 2 ∷ 0 ∷ []) (4 ∷ 0 ∷ 0 ∷ 0 ∷ []) .summary
+    ≡ 0 ∷ 2 ∷ [])
 unfolding readMessage andThen refuseIf isPlan isCount isValue isVote isInRange bytesOf bytesOf1b messageLength slotOf mapLength isKnown ones
     fieldsMessage decode hasOrder all isTableLength slotsUpTo slots isZero readSlot readTable allUnused isOrdered isTable usedMessages
     messages sameBytes storeAt sameMessage placeFrom placeIn messageAt sending slotNumber whoLimit areZero areArguments isEvent countAcceptors

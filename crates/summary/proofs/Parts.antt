@@ -1,15 +1,11 @@
 -- The size of a leader's part of a summary.
---     fits           a product of two bytes is small, so the code's numbers fit
 --     no-leaders     0 where there is no leader
 --     whole-size     a summary of the plan's size has a byte for each instance in each part
 -- Assumes nothing.
-use Prim.Native.Nat.{ℕ, _*_, _/_, _≤_, _<_}
+use Prim.Native.Nat.{ℕ, _*_, _/_}
 use mathlib.Core.Path.{_≡_, sym, _∙_, ap}
-use native.Mathlib.Nat.{div-zero, mul-div-cancel, mul-le-mul}
+use native.Mathlib.Nat.{div-zero, mul-div-cancel}
 use native.Mathlib.Omega.{arith}
-
-pub fits : (a b : ℕ) → a < 256 → b < 256 → a * b ≤ 65025
-fits a b p q = mul-le-mul {n₁ = a} {m₁ = b} {n₂ = 255} {m₂ = 255} (omega arith) (omega arith)
 
 module _ (size leaders : ℕ) where
   pub no-leaders : leaders ≡ 0 → 0 ≡ size / leaders

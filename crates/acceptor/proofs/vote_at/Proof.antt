@@ -1,7 +1,7 @@
 -- `acceptor::vote_at` meets its contract: a product of two bytes fits. Assumes nothing.
 use Rattle.acceptor.specs.Acceptor.{voteAt}
 use mathlib.Core.Path.{refl}
-use Rattle.votes.specs.Votes.Laws.{bytes-bound}
+use Rattle.message.specs.Plan.Laws.{bytes-bound}
 use native.Mathlib.Omega.{arith}
 use borrow.Author.Needs.{needs}
 use Rattle.acceptor.proofs.vote_at.Statement.{statement}

@@ -4,7 +4,7 @@
 use Prim.Native.Nat.{ℕ, _≤_, _<_}
 use native.Mathlib.Omega.{arith}
 use Rattle.message.specs.declared.Plan.{Plan}
-use Rattle.votes.specs.Votes.Laws.{bytes-bound}
+use Rattle.message.specs.Plan.Laws.{bytes-bound}
 use Rattle.acceptor.specs.Acceptor.{voteAt}
 
 pub voteAt-bound : (p : Plan) (ins acc : ℕ) → p .acceptors < 256 → ins < 256 → acc < 256 → voteAt p ins acc ≤ 195840

@@ -5,7 +5,7 @@ use native.Mathlib.Omega.{arith}
 use borrow.Author.Tests.{eq-eqb, ne-eqb}
 use Rattle.message.proofs.Guards.{told, halt, pass}
 use Rattle.acceptor.specs.Acceptor.{acceptorJudged}
-use Rattle.votes.specs.Votes.Laws.{bytes-bound}
+use Rattle.message.specs.Plan.Laws.{bytes-bound}
 use borrow.Author.Needs.{needs}
 use Rattle.acceptor_call.proofs.judge.Statement.{statement}
 use Rattle.acceptor_call.proofs.judge.Tie as tie

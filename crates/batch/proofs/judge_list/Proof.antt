@@ -2,7 +2,7 @@
 use mathlib.Core.Path.{refl}
 use native.Mathlib.Omega.{arith}
 use Rattle.message.proofs.Guards.{passed, failed}
-use Rattle.votes.specs.Votes.Laws.{bytes-bound}
+use Rattle.message.specs.Plan.Laws.{bytes-bound}
 use Rattle.record.specs.Record.{Tables, tablesOf}
 use Rattle.batch.proofs.Judging.{list-stopped, list-cut, list-unsound, list-sound}
 use borrow.Author.Needs.{needs}

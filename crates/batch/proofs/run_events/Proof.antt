@@ -113,6 +113,12 @@ same-length-5 c = c .before .loop .inv .5
 same-length-6 : tie.Need-same-length-6 Inv-loop μ-loop
 same-length-6 c = c .before .loop .inv .6
 
+perform-requires : tie.Need-perform-requires Inv-loop μ-loop
+perform-requires c κs = tt
+
+answer-number-requires : tie.Need-answer-number-requires Inv-loop μ-loop
+answer-number-requires c κs = tt
+
 pub run-events-spec : {M : Type 1} → statement M
 run-events-spec =
     tie.close
@@ -125,8 +131,8 @@ run-events-spec =
     sub-event
     part-event-start
     part-event-end
-    (λ c κs. tt)
-    (λ c κs. tt)
+    perform-requires
+    answer-number-requires
     slice-write-answers
     add-i
     loop-less

@@ -1,9 +1,12 @@
--- The bounds of a plan in range.
+-- The bounds of a plan in range, and of what its counts make.
 --     PlanBounds, plan-bounds
+--     bytes-bound                 a product of two bytes is small, so the code's numbers fit
 -- Assumes nothing.
-use Prim.Native.Nat.{ℕ, _≤_}
+use Prim.Native.Nat.{ℕ, _*_, _≤_, _<_}
 use mathlib.Core.Bool.{true, _&&_}
 use mathlib.Core.Path.{_≡_}
+use native.Mathlib.Nat.{mul-le-mul}
+use native.Mathlib.Omega.{arith}
 use borrow.Author.Tests.{leb-true}
 use Rattle.message.specs.declared.Plan.{Plan}
 use Rattle.message.specs.Outcome.Laws.{both}
@@ -30,3 +33,6 @@ plan-bounds p e =
     let a = count-bounds 7 (p .acceptors) (first .1) in
     let l = count-bounds 4 (p .leaders) (rest .1) in
     record { rms-least = n .0; rms-most = n .1; acceptors-least = a .0; acceptors-most = a .1; leaders-least = l .0; leaders-most = l .1 }
+
+pub bytes-bound : (a b : ℕ) → a < 256 → b < 256 → a * b ≤ 65025
+bytes-bound a b p q = mul-le-mul {n₁ = a} {m₁ = b} {n₂ = 255} {m₂ = 255} (omega arith) (omega arith)

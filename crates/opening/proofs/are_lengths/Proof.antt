@@ -3,7 +3,7 @@ use native.Mathlib.Omega.{arith}
 use borrow.Author.Tests.{eq-eqb, ne-eqb}
 use Rattle.message.proofs.Guards.{passed, failed}
 use Rattle.message.specs.Plan.Laws.{plan-bounds}
-use Rattle.votes.specs.Votes.Laws.{bytes-bound}
+use Rattle.message.specs.Plan.Laws.{bytes-bound}
 use Rattle.opening.specs.Opening.{areLengths, inboxSize}
 use borrow.Author.Needs.{needs}
 use Rattle.opening.proofs.are_lengths.Statement.{statement}

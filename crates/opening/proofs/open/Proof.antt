@@ -1,6 +1,6 @@
 -- `opening::open` meets its contract: rows 1, 2 and 20, and then each table cleared. Assumes nothing.
 use native.Mathlib.Omega.{arith}
-use Rattle.votes.specs.Votes.Laws.{bytes-bound}
+use Rattle.message.specs.Plan.Laws.{bytes-bound}
 use Rattle.opening.proofs.Opening.{open-refused, open-short, open-cleared}
 use borrow.Author.Needs.{needs}
 use Rattle.opening.proofs.open.Statement.{statement}

@@ -38,16 +38,25 @@ same-length-3 c = sent c .apply-store .kept .1 .0
 same-length-4 : tie.Need-same-length-4
 same-length-4 c = updated c .update-table .kept .1 .1 .1 .0
 
+verdict-number-requires : tie.Need-verdict-number-requires
+verdict-number-requires c κs = tt
+
+update-table-requires : tie.Need-update-table-requires
+update-table-requires c κs = tt
+
+apply-store-requires : tie.Need-apply-store-requires
+apply-store-requires c κs = tt
+
 pub apply-spec : {M : Type 1} → statement M
 apply-spec =
     tie.close
     (tie.spec
     enum-known-verdict
     enum-told
-    (λ c κs. tt)
+    verdict-number-requires
     returns
-    (λ c κs. tt)
-    (λ c κs. tt)
+    update-table-requires
+    apply-store-requires
     same-length
     same-length-2
     same-length-3

@@ -2,7 +2,7 @@
 use mathlib.Core.Path.{refl}
 use native.Mathlib.Omega.{arith}
 use Rattle.message.proofs.Guards.{passed, failed}
-use Rattle.votes.specs.Votes.Laws.{bytes-bound}
+use Rattle.message.specs.Plan.Laws.{bytes-bound}
 use Rattle.record.specs.Record.{Tables, tablesOf}
 use Rattle.record.proofs.Stepping.{lent-refused, lent-unsound, lent-whole}
 use borrow.Author.Needs.{needs}
@@ -55,17 +55,23 @@ returns-3 c =
     lent-whole (s .args .plan) (lent s) _ (judge .judge .ensures) (told .enum-told .given .1)
     _ refl (passed (c .before .is-summary .ensures) (c .if1 .left))
 
+judge-requires : tie.Need-judge-requires
+judge-requires c κs = tt
+
+is-summary-requires : tie.Need-is-summary-requires
+is-summary-requires c κs = tt
+
 pub judge-lent-spec : {M : Type 1} → statement M
 judge-lent-spec =
     tie.close
     (tie.spec
-    (λ c κs. tt)
+    judge-requires
     enum-told
     enum-told-2
     returns
     cast-is-summary
     cast-is-summary-2
     mul-is-summary
-    (λ c κs. tt)
+    is-summary-requires
     returns-2
     returns-3)

@@ -125,13 +125,28 @@ returns-3 c =
     performed-other (s .args .plan) (lent s) (s .args .event .now) _ (leader .before .evaluate .ensures) _ (leader .byte-at .ensures)
     _ (left done) (done .apply .ensures _) _ (answered kind .answer .given .1) _ (kind .byte-at2 .ensures) (c .if1 .left)
 
+evaluate-requires : tie.Need-evaluate-requires
+evaluate-requires c κs = tt
+
+byte-at-requires : tie.Need-byte-at-requires
+byte-at-requires c κs = tt
+
+apply-requires : tie.Need-apply-requires
+apply-requires c κs = tt
+
+byte-at-requires-2 : tie.Need-byte-at-requires-2
+byte-at-requires-2 c κs = tt
+
+slot-number-requires : tie.Need-slot-number-requires
+slot-number-requires c κs = tt
+
 pub perform-spec : {M : Type 1} → statement M
 perform-spec =
     tie.close
     (tie.spec
-    (λ c κs. tt)
-    (λ c κs. tt)
-    (λ c κs. tt)
+    evaluate-requires
+    byte-at-requires
+    apply-requires
     enum-known-answer
     enum-told
     same-length
@@ -140,8 +155,8 @@ perform-spec =
     same-length-4
     same-length-5
     returns
-    (λ c κs. tt)
-    (λ c κs. tt)
+    byte-at-requires-2
+    slot-number-requires
     mark-part-requires
     same-length-6
     same-length-7

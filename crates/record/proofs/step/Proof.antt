@@ -75,14 +75,20 @@ returns-2 c =
     step-performed (s .args .plan) (lent s) (s .args .event .now) _ (judge .judge-lent .ensures) (told .enum-told .given .1)
     (done c .perform .result) (left (done c)) (done c .perform .ensures)
 
+judge-lent-requires : tie.Need-judge-lent-requires
+judge-lent-requires c κs = tt
+
+perform-requires : tie.Need-perform-requires
+perform-requires c κs = tt
+
 pub step-spec : {M : Type 1} → statement M
 step-spec =
     tie.close
     (tie.spec
-    (λ c κs. tt)
+    judge-lent-requires
     enum-known-judged
     enum-told
-    (λ c κs. tt)
+    perform-requires
     same-length
     same-length-2
     same-length-3

@@ -38,16 +38,25 @@ same-length-2 c = c .before .before .set-vote .kept .0
 same-length-3 : tie.Need-same-length-3
 same-length-3 c = c .before .before .store-in-inbox .kept .1 .0
 
+set-byte-requires : tie.Need-set-byte-requires
+set-byte-requires c κs = tt
+
+set-vote-requires : tie.Need-set-vote-requires
+set-vote-requires c κs = tt
+
+store-in-inbox-requires : tie.Need-store-in-inbox-requires
+store-in-inbox-requires c κs = tt
+
 pub update-table-spec : {M : Type 1} → statement M
 update-table-spec =
     tie.close
     (tie.spec
     enum-known-update
-    (λ c κs. tt)
+    set-byte-requires
     enum-known-update-2
-    (λ c κs. tt)
+    set-vote-requires
     enum-known-update-3
-    (λ c κs. tt)
+    store-in-inbox-requires
     same-length
     returns
     same-length-2

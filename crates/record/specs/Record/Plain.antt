@@ -26,7 +26,8 @@ use Rattle.inbox.specs.Inbox.{decided, forAll, forSome}
 use Rattle.rm.specs.Rm.{rmStep}
 use Rattle.acceptor.specs.Acceptor.{acceptorStep}
 use Rattle.leader.specs.Leader.{isSummary, leaderKind, leaderVerdictBy, leaderStepBy}
-use Rattle.record.specs.Record.{Tables, withSummary, areLengths, inboxOf, recordJudged, lentJudged, RecordStep, onStates, onVotes, onInbox, roleStep, settled, bySummary, byInbox, marking, recordStep, plainStep}
+use Rattle.record.specs.Record.{Tables, withSummary, areLengths, inboxOf, recordJudged, lentJudged, RecordStep}
+use Rattle.record.specs.Record.{onStates, onVotes, onInbox, roleStep, settled, bySummary, byInbox, marking, recordStep, plainStep}
 
 module _ (f g : ℕ → Bool) where
   pub forAll-ext : (n : ℕ) → ((i : ℕ) → i < n → f i ≡ g i) → forAll n f ≡ forAll n g

@@ -59,7 +59,8 @@ abbrev start : tie.After-eight-from Inv-loop μ-loop → tie.Start Inv-loop μ-l
 start c = begun (looped c .before .before)
 
 -- a slot that does not begin with 0
-used : (c : tie.After-eight-from Inv-loop μ-loop) → (c .eight-from .result % 0x100 ≡ 0 → ⊥) → getD (now (start c .args .table)) (looped c .loop .place * slotSize) 0 ≡ 0 → ⊥
+used : (c : tie.After-eight-from Inv-loop μ-loop) → (c .eight-from .result % 0x100 ≡ 0 → ⊥)
+    → getD (now (start c .args .table)) (looped c .loop .place * slotSize) 0 ≡ 0 → ⊥
 used c left e = left (first-byte (c .eight-from .ensures) ∙ e)
 
 returns-2 : tie.Need-returns-2 Inv-loop μ-loop

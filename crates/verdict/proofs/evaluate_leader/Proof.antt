@@ -23,7 +23,8 @@ inbox-within c =
     let start = at-start c in
     part-within-of (start .args .plan) (start .args .inboxes .now) _ refl _ _ (c .byte-at .ensures) (start .pre)
 
-own-within : (c : tie.After-part-size) → at-who c .byte-at .result * c .part-size .result + c .part-size .result ≤ length (at-start (at-who c) .args .summary .now)
+own-within : (c : tie.After-part-size)
+    → at-who c .byte-at .result * c .part-size .result + c .part-size .result ≤ length (at-start (at-who c) .args .summary .now)
 own-within c =
     let start = at-start (at-who c) in
     part-within-of (start .args .plan) (start .args .summary .now) _ (c .part-size .ensures) _ _ (at-who c .byte-at .ensures) (start .pre)

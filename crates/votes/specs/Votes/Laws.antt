@@ -1,11 +1,9 @@
--- The size of Q, and testing Q place by place.
---     bytes-bound                                    a product of two bytes is small, so the code's numbers fit
+-- Testing Q place by place.
 --     areVotes-step, areVotes-stop, areVotes-end     one place further: it is in order, it is not, there is none
 --     areVotes-at, areVotes-set                      a place of Q in order, and Q after one place was written
 -- Laws/Lanes.antt has many places tested at a time. Assumes nothing.
 pub mod Lanes
 use Prim.Native.Nat.{ℕ, zero, suc, _+_, _*_, _-_, _≤_, _<_}
-use native.Mathlib.Nat.{mul-le-mul}
 use native.Mathlib.Omega.{arith}
 use mathlib.Core.Bool.{true, false}
 use mathlib.Core.List.{List, [], _∷_}
@@ -15,9 +13,6 @@ use lib.ListN.{length, getD, drop, set, length-drop, length-set}
 use lib.Seq.{drop-cons}
 use Rattle.message.specs.Outcome.Laws.{both}
 use Rattle.votes.specs.Votes.{isVoteState, areVotes}
-
-pub bytes-bound : (a b : ℕ) → a < 256 → b < 256 → a * b ≤ 65025
-bytes-bound a b p q = mul-le-mul {n₁ = a} {m₁ = b} {n₂ = 255} {m₂ = 255} (omega arith) (omega arith)
 
 module _ (l : List ℕ) (i : ℕ) where
   drop-three : 2 < length l - i → drop i l ≡ getD l i 0 ∷ getD l (i + 1) 0 ∷ getD l (i + 2) 0 ∷ drop (i + 3) l
