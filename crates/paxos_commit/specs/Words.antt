@@ -7,10 +7,13 @@
 --     actions-mean              Phase2a, Phase1b, Phase2b and Decide by what they read, and by their messages
 --     proposes-one, next-one    an action has one next state, Phase2a for each value that it may propose
 --     proposes-enabled, enabled-words     when an action is enabled, at every size
+--     announced-words           Decide widened: what counts as decided
+--     EarlyAbort, widened-next  it is PCNext, and Abort sent in one case more, which early-words writes out
+--     widened-step, widened-spec     WidenedStep and WidenedSpec
 -- Assumes nothing.
 use Prim.Native.Nat.{ℕ, suc, _≤_, _<_}
 use mathlib.Core.Bool.{Bool, true, cond}
-use mathlib.Core.Logic.{_⊎_, inl, inr, _↔_}
+use mathlib.Core.Logic.{_⊎_, inl, inr, ⊎-elim, _↔_}
 use mathlib.Core.Path.{_≡_, refl, sym, _∙_}
 use lib.Dec.{eqb}
 use Rattle.tcommit.specs.TCommit.{except, TCTypeOK, TCConsistent, TCInit, TCNext, TCStep, TCSpec}
@@ -18,6 +21,8 @@ use Rattle.paxos_commit.specs.PaxosCommit.{Val, prepared, aborted, none,
 use Rattle.paxos_commit.specs.PaxosCommit.{Message, phase1a, phase1b, phase2a, phase2b, Commit, Abort, IsMessage}
 use Rattle.paxos_commit.specs.PaxosCommit.{Assume, PCTypeOK, PCInit, PCNext, PCStep, PCSpec}
 use Rattle.paxos_commit.specs.PaxosCommit as Module
+use Rattle.paxos_commit.specs.Widened.{DecidedOrDeclined, WidenedNext, WidenedStep, WidenedSpec}
+use Rattle.paxos_commit.specs.Widened.Laws.{of-prepared}
 
 module _ (RM : ℕ → Type 0) (row : ℕ → ℕ) where
   pub row-types : TCTypeOK RM row ↔ ((rm : ℕ) → RM rm → row rm ≤ 3)
@@ -182,3 +187,51 @@ module _ (RM Acceptor : ℕ → Type 0) (Majority : (ℕ → Bool) → Type 0) (
     λ all. (next (s .rmState) (s .aState) Commit, (all, λ x. (λ h. h, λ h. h), refl, refl)),
     λ i q d. (next (s .rmState) (s .aState) Abort, ((i, q, d), λ x. (λ h. h, λ h. h), refl, refl)),
   )
+
+-- Decide widened: for prepared nothing more, for aborted the 2a of ballot 0 by which the resource manager declines
+module _ (RM Acceptor : ℕ → Type 0) (Majority : (ℕ → Bool) → Type 0) where
+  pub announced-words : (seen : Message → Type 0) (rm : ℕ)
+      → (DecidedOrDeclined RM Acceptor Majority seen rm prepared ↔ Module.Decided RM Acceptor Majority seen rm prepared)
+      × (DecidedOrDeclined RM Acceptor Majority seen rm aborted ↔ (Module.Decided RM Acceptor Majority seen rm aborted ⊎ seen (phase2a rm 0 aborted)))
+  announced-words seen rm = (
+    (of-prepared RM Acceptor Majority seen rm, inl),
+    (⊎-elim inl (λ (e, h). inr h), ⊎-elim inl (λ h. inr (refl, h))),
+  )
+
+  pub widened-spec : (state : ℕ → State) → WidenedSpec RM Acceptor Majority state
+      ↔ (PCInit RM Acceptor Majority (state 0)
+      × ((t : ℕ) → WidenedNext RM Acceptor Majority (state t) (state (suc t))
+      ⊎ ((state (suc t) .rmState ≡ state t .rmState) × (state (suc t) .aState ≡ state t .aState)
+      × ((x : Message) → state (suc t) .msgs x ↔ state t .msgs x))))
+  widened-spec state = (λ h. h, λ h. h)
+
+  -- an action of PCNext, or Abort sent where a resource manager has declined
+  module _ (s s′ : State) where
+    abbrev pub EarlyAbort : Type 0
+    EarlyAbort =
+        ((rm : ℕ) × RM rm × s .msgs (phase2a rm 0 aborted))
+        × ((x : Message) → s′ .msgs x ↔ (s .msgs x ⊎ (x ≡ Abort)))
+        × (s′ .rmState ≡ s .rmState)
+        × (s′ .aState ≡ s .aState)
+
+    pub early-words : EarlyAbort
+        ↔ (((rm : ℕ) × RM rm × s .msgs (phase2a rm 0 aborted))
+        × ((x : Message) → s′ .msgs x ↔ (s .msgs x ⊎ (x ≡ Abort)))
+        × (s′ .rmState ≡ s .rmState)
+        × (s′ .aState ≡ s .aState))
+    early-words = (λ h. h, λ h. h)
+
+    pub widened-step : WidenedStep RM Acceptor Majority s s′
+        ↔ (WidenedNext RM Acceptor Majority s s′
+        ⊎ ((s′ .rmState ≡ s .rmState) × (s′ .aState ≡ s .aState) × ((x : Message) → s′ .msgs x ↔ s .msgs x)))
+    widened-step = (λ h. h, λ h. h)
+
+    pub widened-next : WidenedNext RM Acceptor Majority s s′ ↔ (PCNext RM Acceptor Majority s s′ ⊎ EarlyAbort)
+    widened-next = (to, ⊎-elim inl (λ ((rm, q, h), sent, row, same). inr (inr ((rm, q, inr (refl, h)), sent, row, same))))
+      where
+        to : WidenedNext RM Acceptor Majority s s′ → PCNext RM Acceptor Majority s s′ ⊎ EarlyAbort
+        to (inl next) = inl next
+        to (inr (inl (all, sent, row, same))) =
+            inl (inr (inr (inl (inl (λ rm q. of-prepared RM Acceptor Majority (s .msgs) rm (all rm q), sent, row, same)))))
+        to (inr (inr ((rm, q, inl d), sent, row, same))) = inl (inr (inr (inl (inr ((rm, q, d), sent, row, same)))))
+        to (inr (inr ((rm, q, inr (e, h)), sent, row, same))) = inr ((rm, q, h), sent, row, same)

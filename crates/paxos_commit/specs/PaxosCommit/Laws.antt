@@ -2,6 +2,7 @@
 --     atMost-refl, atMost-trans   the order of Ballot ∪ {-1}
 --     maximum-bounds              no element of a set exceeds its maximum
 --     except₂-cases               what holds of the new value at its place, and of the old ones everywhere, holds of f EXCEPT
+--     unlike                      prepared is not aborted
 --     decided-kept                what is decided by some messages is decided by more
 -- Assumes nothing.
 use Prim.Native.Nat.{ℕ}
@@ -11,7 +12,7 @@ use mathlib.Core.Path.{_≡_, refl}
 use native.Mathlib.Omega.{arith}
 use borrow.Author.Tests.{eqb-true, eq-eqb}
 use lib.Dec.{eqb}
-use Rattle.paxos_commit.specs.PaxosCommit.{Bal, minusOne, ballot, atMost, Maximum, Message, Val, AState, except₂, Decided}
+use Rattle.paxos_commit.specs.PaxosCommit.{Bal, minusOne, ballot, atMost, Maximum, Message, Val, prepared, aborted, AState, except₂, Decided}
 
 pub atMost-refl : (n : Bal) → atMost n n
 atMost-refl minusOne = tt
@@ -38,6 +39,9 @@ except₂-cases P f i a v here there j c = go (eqb j i) (eqb c a) refl refl
 
 pub except₂-here : (f : ℕ → ℕ → AState) (i a : ℕ) (v : AState) → except₂ f i a v i a ≡ v
 except₂-here f i a v = rw (eq-eqb i i refl, eq-eqb a a refl)
+
+pub unlike : prepared ≡ aborted → ⊥
+unlike e = let z : _≡_ {A = ℕ} 0 1 = cc in omega arith
 
 module _ (RM Acceptor : ℕ → Type 0) (Majority : (ℕ → Bool) → Type 0) where
   pub decided-kept : (seen msgs : Message → Type 0) → ((x : Message) → seen x → msgs x)

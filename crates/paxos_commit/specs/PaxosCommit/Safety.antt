@@ -19,6 +19,7 @@ use mathlib.Core.Logic.{_⊎_}
 use mathlib.Core.Path.{_≡_}
 use Rattle.paxos_commit.specs.PaxosCommit.{Val, prepared, aborted, Bal, ballot, atMost, Message, phase1b, phase2a, phase2b}
 use Rattle.paxos_commit.specs.PaxosCommit.{Commit, Abort, AState, State, IsMessage, Decided}
+use Rattle.paxos_commit.specs.Widened.{DecidedOrDeclined}
 
 -- some acceptor of MS is past ballot c and has not voted for v there: MS never chooses v at c
 abbrev pub Blocked : (ℕ → ℕ → AState) → (Message → Type 0) → ℕ → ℕ → Val → (ℕ → Bool) → Type 0
@@ -38,9 +39,9 @@ Grounds msgs i (suc (suc (suc zero))) = msgs (phase2a i 0 aborted) ⊎ msgs Abor
 Grounds msgs i (suc (suc (suc (suc n)))) = ⊥
 
 module _ (RM Acceptor : ℕ → Type 0) (Majority : (ℕ → Bool) → Type 0) where
-  -- instance i has chosen aborted
+  -- instance i has chosen aborted, or can choose nothing else, since its resource manager has proposed so at ballot 0
   abbrev pub Refused : (Message → Type 0) → ℕ → Type 0
-  Refused msgs i = Decided RM Acceptor Majority msgs i aborted
+  Refused msgs i = DecidedOrDeclined RM Acceptor Majority msgs i aborted
 
   pub record Inv (s : State) : Type 0 where
     -- every message is of the set Message

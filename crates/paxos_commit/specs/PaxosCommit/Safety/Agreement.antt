@@ -1,6 +1,9 @@
 -- What the invariant gives.
 --     chosen-2a, chosen-2b   what a majority has chosen at a ballot is what every later ballot proposes, and what is voted for there
 --     one-chosen             an instance chooses one value
+--     proposed-first         what is chosen prepared was proposed by the resource manager
+--     declined-chooses       an instance whose resource manager has declined chooses nothing but aborted
+--     declined-ends          and Commit is not sent
 --     never-both             Commit and Abort are not both sent
 --     can-commit             with a Commit every resource manager is prepared or committed
 --     not-committed          with an Abort none is committed
@@ -16,6 +19,8 @@ use Rattle.tcommit.specs.RmState as RmState
 use Rattle.tcommit.specs.TCommit.{canCommit, notCommitted, TCConsistent}
 use Rattle.paxos_commit.specs.PaxosCommit.{Val, Val-discrete, prepared, aborted, Message, phase2a, phase2b, Commit, Abort, State}
 use Rattle.paxos_commit.specs.PaxosCommit.{MajoritiesMeet, PCTypeOK, Decided}
+use Rattle.paxos_commit.specs.PaxosCommit.Laws.{unlike}
+use Rattle.paxos_commit.specs.Widened.{Declined}
 use Rattle.paxos_commit.specs.PaxosCommit.Safety.{Grounds, Refused, Inv}
 
 grounds-range : (msgs : Message → Type 0) (i n : ℕ) → Grounds msgs i n → n ≤ RmState.aborted
@@ -24,9 +29,6 @@ grounds-range msgs i (suc zero) h = omega arith
 grounds-range msgs i (suc (suc zero)) h = omega arith
 grounds-range msgs i (suc (suc (suc zero))) h = omega arith
 grounds-range msgs i (suc (suc (suc (suc n)))) h = absurd h
-
-unlike : prepared ≡ aborted → ⊥
-unlike e = let z : _≡_ {A = ℕ} 0 1 = cc in omega arith
 
 module _ {RM Acceptor : ℕ → Type 0} {Majority : (ℕ → Bool) → Type 0} {s : State} (inv : Inv RM Acceptor Majority s) where
   pub type-ok : PCTypeOK RM Acceptor Majority s
@@ -60,13 +62,23 @@ module _ {RM Acceptor : ℕ → Type 0} {Majority : (ℕ → Bool) → Type 0} {
         go (no l) (a, m, m′) = chosen-2b i b c w v MS′ many′ votes′ (omega arith) a (votes a m)
 
     -- what is chosen prepared was proposed by the resource manager
-    proposed-first : (i : ℕ) → Decided RM Acceptor Majority (s .msgs) i prepared → s .msgs (phase2a i 0 prepared)
+    pub proposed-first : (i : ℕ) → Decided RM Acceptor Majority (s .msgs) i prepared → s .msgs (phase2a i 0 prepared)
     proposed-first i (b, MS, many, votes) =
         let (a, member, again) = meet MS MS many many in
         inv .prepared-first i b (inv .voted a i b prepared (votes a member) .0)
 
     refused-not-chosen : (i : ℕ) → Refused RM Acceptor Majority (s .msgs) i → Decided RM Acceptor Majority (s .msgs) i prepared → ⊥
-    refused-not-chosen i r d = unlike (one-chosen i prepared aborted d r)
+    refused-not-chosen i (inl r) d = unlike (one-chosen i prepared aborted d r)
+    refused-not-chosen i (inr (e, h)) d = unlike (inv .one-value i 0 prepared aborted (proposed-first i d) h)
+
+    -- an instance whose resource manager has declined chooses nothing but aborted
+    pub declined-chooses : (i : ℕ) (v : Val) → Declined (s .msgs) i → Decided RM Acceptor Majority (s .msgs) i v → v ≡ aborted
+    declined-chooses i v h d =
+        let (a, member, again) = meet (d .1) (d .1) (d .2) (d .2) in
+        ⊎-elim (λ e. absurd (refused-not-chosen i (inr (refl, h)) (rw e at d))) (λ e. e) (inv .ranges _ (d .3 a member) .2)
+
+    pub declined-ends : (i : ℕ) → RM i → Declined (s .msgs) i → s .msgs Commit → ⊥
+    declined-ends i q h sent = refused-not-chosen i (inr (refl, h)) (inv .decisions .0 sent i q)
 
     pub never-both : s .msgs Commit → s .msgs Abort → ⊥
     never-both h k = let (i, q, r) = inv .decisions .1 k in refused-not-chosen i r (inv .decisions .0 h i q)

@@ -15,6 +15,7 @@ use Rattle.tcommit.specs.RmState as RmState
 use Rattle.paxos_commit.specs.PaxosCommit.{Val, prepared, aborted, Bal, ballot, atMost, Message, phase1a, phase1b, phase2a, phase2b}
 use Rattle.paxos_commit.specs.PaxosCommit.{Commit, Abort, AState, State, IsMessage, Send, UnchangedMsgs, Decided}
 use Rattle.paxos_commit.specs.PaxosCommit.Laws.{atMost-refl, atMost-trans, decided-kept}
+use Rattle.paxos_commit.specs.Widened.Laws.{announced-kept}
 use Rattle.paxos_commit.specs.PaxosCommit.Safety.{Blocked, Grounds, Refused, Inv}
 
 -- acceptor a goes up in instance i, and the vote that it remembers is in msgs
@@ -128,7 +129,7 @@ module _ {RM Acceptor : ℕ → Type 0} {Majority : (ℕ → Bool) → Type 0} {
   growth-commit h i q = decided-kept RM Acceptor Majority _ _ (g .kept) i prepared (⊎-elim (inv .decisions .0) (λ k. g .fits Commit k .1) h i q)
 
   refused-kept : (i : ℕ) → Refused RM Acceptor Majority (s .msgs) i → Refused RM Acceptor Majority (s′ .msgs) i
-  refused-kept i = decided-kept RM Acceptor Majority _ _ (g .kept) i aborted
+  refused-kept i = announced-kept RM Acceptor Majority _ _ (g .kept) i aborted
 
   growth-abort : Sent Abort → (i : ℕ) × RM i × Refused RM Acceptor Majority (s′ .msgs) i
   growth-abort h = let (i, q, r) = ⊎-elim (inv .decisions .1) (λ k. g .fits Abort k .1) h in (i, q, refused-kept i r)

@@ -1,11 +1,11 @@
 -- The actions of a leader keep the invariant. Their conditions are read from a set `seen` of messages, of which only this is asked:
 --     inv-phase1a          nothing
 --     inv-phase2a          all of `seen` is sent; and no 2a of the instance and ballot is sent
---     inv-decide-commit    what is decided prepared has been chosen in msgs (`decided-kept`, where it is read from sent messages)
+--     inv-decide-commit    what is decided prepared has been chosen in msgs (`of-prepared` and `announced-kept`, where it is read from sent messages)
 --     inv-decide-abort     what is decided aborted is refused in msgs
 -- So read from sent messages they are the source's actions:
 --     phase2a-of-part      Phase2a, where no 2a of the instance and ballot is sent: an acceptor has sent one 1b, and it is the one in `seen`
---     decide-commit-of-part, decide-abort-of-part     Decide
+--     decide-commit-of-part, decide-abort-of-part     Decide, and for Abort Decide widened
 -- Assumes nothing.
 use Prim.Native.Nat.{ℕ, _≤_, _<_}
 use mathlib.Core.Bool.{Bool, true}
@@ -16,7 +16,9 @@ use native.Mathlib.Omega.{arith}
 use Rattle.paxos_commit.specs.PaxosCommit.{Val, prepared, aborted, Bal, minusOne, ballot, atMost, Message, phase1b, phase2a, phase2b}
 use Rattle.paxos_commit.specs.PaxosCommit.{State, Maximum, MajoritiesMeet, Phase1a, Reported, ProposedVal, Phase2aFrom, Phase2a}
 use Rattle.paxos_commit.specs.PaxosCommit.{Decided, DecideCommitWhere, DecideAbortWhere, Decide}
-use Rattle.paxos_commit.specs.PaxosCommit.Laws.{atMost-trans, maximum-bounds, decided-kept}
+use Rattle.paxos_commit.specs.PaxosCommit.Laws.{atMost-trans, maximum-bounds}
+use Rattle.paxos_commit.specs.Widened.{DecidedOrDeclined, WidenedDecide}
+use Rattle.paxos_commit.specs.Widened.Laws.{of-prepared, announced-kept}
 use Rattle.paxos_commit.specs.PaxosCommit.Safety.{Blocked, Refused, Inv}
 use Rattle.paxos_commit.specs.PaxosCommit.Safety.Growth.{inv-says}
 
@@ -124,11 +126,12 @@ module _ {RM Acceptor : ℕ → Type 0} {Majority : (ℕ → Bool) → Type 0} {
     phase2a-of-part b i fresh (unsent, (MS, many, v, heard, p, sent), row, same) =
         (fresh, (MS, many, v, λ a m. let (r, w, h) = heard a m in (r, w, forth b i MS heard r w a h), proposed-of-part b i MS heard v p, sent), row, same)
 
-    sent-decided : (i : ℕ) (v : Val) → Decided RM Acceptor Majority seen i v → Decided RM Acceptor Majority (s .msgs) i v
-    sent-decided = decided-kept RM Acceptor Majority seen (s .msgs) sub
+    announced : (i : ℕ) (v : Val) → DecidedOrDeclined RM Acceptor Majority seen i v → DecidedOrDeclined RM Acceptor Majority (s .msgs) i v
+    announced = announced-kept RM Acceptor Majority seen (s .msgs) sub
 
-    pub decide-commit-of-part : DecideCommitWhere RM Acceptor Majority (Decided RM Acceptor Majority seen) s s′ → Decide RM Acceptor Majority s s′
-    decide-commit-of-part (all, sent, row, same) = inl (λ i q. sent-decided i prepared (all i q), sent, row, same)
+    pub decide-commit-of-part : DecideCommitWhere RM Acceptor Majority (DecidedOrDeclined RM Acceptor Majority seen) s s′ → Decide RM Acceptor Majority s s′
+    decide-commit-of-part (all, sent, row, same) =
+        inl (λ i q. of-prepared RM Acceptor Majority (s .msgs) i (announced i prepared (all i q)), sent, row, same)
 
-    pub decide-abort-of-part : DecideAbortWhere RM Acceptor Majority (Decided RM Acceptor Majority seen) s s′ → Decide RM Acceptor Majority s s′
-    decide-abort-of-part ((i, q, d), sent, row, same) = inr ((i, q, sent-decided i aborted d), sent, row, same)
+    pub decide-abort-of-part : DecideAbortWhere RM Acceptor Majority (DecidedOrDeclined RM Acceptor Majority seen) s s′ → WidenedDecide RM Acceptor Majority s s′
+    decide-abort-of-part ((i, q, d), sent, row, same) = inr ((i, q, announced i aborted d), sent, row, same)
