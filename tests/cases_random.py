@@ -19,6 +19,7 @@ from model import (
     owner,
     role_of,
     set_bytes,
+    takes,
     zeros,
 )
 
@@ -94,8 +95,7 @@ def random_slots(rng, plan, most):
 def random_event(rng, plan, role, network):
     kind, who = rng.choice(sorted(KINDS[role])), rng.randrange(plan[ROLES.index(role)])
     if kind in (2, 3, 4):
-        kinds = {2: ["decision"], 3: ["1a", "2a"], 4: ["1b", "2b"]}[kind]
-        places = [k for k, m in enumerate(messages(network)) if m.kind in kinds]
+        places = [k for k, m in enumerate(messages(network)) if takes(kind, m)]
         return reading(kind, who, rng.choice(places) if places and rng.random() < 0.9 else rng.randrange(10))
     if kind in (5, 6):
         owned = [b for b in range(1, 9) if owner(Plan(*plan), b) == who]

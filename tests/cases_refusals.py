@@ -19,6 +19,7 @@ from model import (
     decode,
     role_of,
     set_bytes,
+    takes,
 )
 
 
@@ -127,7 +128,7 @@ def bases():
     own rows. Slot 0 of N and of the inbox holds a message that the event does not want; kinds 2, 3 and 4 read slot 1 of N.
     """
     def wanted(message):
-        unwanted = m1a(0, 1) if decode(message).kind in ("1b", "2b") else m2b(0, 0, 9, PREPARED)
+        unwanted = m1a(0, 1) if takes(4, decode(message)) else m2b(0, 0, 9, PREPARED)
         return slots(5, unwanted, message, m2a(1, 4, ABORTED))
 
     low = lambda number, x: set_at(number, "event", 3, x)
@@ -143,7 +144,7 @@ def bases():
         late = [set_at(12, "table", 21, x) for x in mbals]
         yield ACCEPTOR, votes, wanted(message), reading(3, 1, 1), slot_rows + late + send
     inbox = slots(6, m2a(0, 1, PREPARED), m1b(1, 0, 6), m1b(1, 2, 6, (1, PREPARED)), m2b(0, 2, 0, ABORTED))
-    for message in (m1b(2, 1, 4), m1b(2, 1, 4, (0, PREPARED)), m2b(2, 1, 4, ABORTED)):
+    for message in (m1b(2, 1, 4), m1b(2, 1, 4, (0, PREPARED)), m2b(2, 1, 4, ABORTED), m2a(2, 0, PREPARED), m2a(2, 0, ABORTED)):
         yield LEADER, inbox, wanted(message), reading(4, 1, 1), slot_rows + [low(9, 2)] + full(14, "table")
     unowned = [low(10, b) for b in (0, 1, 2, 4, 5, 7, 8, 254)]
     yield LEADER, inbox, wanted(m1a(1, 2)), proposing(5, 2, 1, 6), unowned + send
@@ -203,7 +204,7 @@ def events():
         none, past = [(0, 0), (0, 1), (1, 0)], [(0, 6), (0, 7), (1, 0), (1, 4), (255, 255)]
         ballots = [(0, 1), (n - 1, 1), (n - 1, 4), (n, 1), (255, 1), (n - 1, 0), (n - 1, 255)]
         arguments = {0: none, 1: none, 2: [(0, 4), (0, 5), (0, 0)] + past, 3: [(0, 0), (0, 2), (0, 1)] + past,
-                     4: [(0, 1), (0, 3), (0, 4)] + past, 5: ballots, 6: ballots, 7: none, 8: none}
+                     4: [(0, 1), (0, 2), (0, 3), (0, 4)] + past, 5: ballots, 6: ballots, 7: none, 8: none}
         for role in ROLES:
             limit = plan[ROLES.index(role)]
             if n < 16:

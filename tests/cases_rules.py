@@ -3,7 +3,7 @@ leader's ownership, Phase2a and Decide.
 """
 
 from calls import call, decision, m1a, m1b, m2a, m2b, other, proposing, reading, slots, true_summary, twice
-from model import ABORT, ABORTED, ACCEPTOR, COMMIT, LEADER, PREPARED, RM, SLOT, decode, set_bytes
+from model import ABORT, ABORTED, ACCEPTOR, COMMIT, LEADER, PREPARED, RM, SLOT, decode, set_bytes, takes
 
 
 def rm_states():
@@ -108,6 +108,9 @@ def proposals():
             ([none(0), none(1), m2a(1, 9, 1)], 0),
             ([m2a(1, 9, 2), none(0), none(1)], 0),
             ([none(0), none(1), m2a(1, 8, 1), m2a(0, 9, 1)], 2),
+            # a 2a at ballot 0 neither hinders nor reports
+            ([m2a(1, 0, 1), none(0), none(1)], 2),
+            ([m2a(1, 0, 2), none(0), vote(1, 0, 1)], 1),
             # messages that are no 1b
             ([none(0), none(1), m2b(1, 2, 9, 1)], 2),
             ([none(0), m2b(1, 1, 9, 1), m2b(1, 2, 9, 1)], 0),
@@ -119,14 +122,14 @@ def proposals():
             outcome = call("proposal", LEADER, (2, 3, 2), slots(len(inbox) + spare, *inbox), network, proposing(6, 0, 1, 9),
                            12 if value == 0 else 0 if spare else 14)
             if outcome[0] == 0:
-                sent = m2a(1, 9, value)
-                assert outcome[1:] == (1, slots(len(inbox) + spare, *inbox, sent), bytes(2), network[:SLOT] + sent)
+                sent, after = m2a(1, 9, value), slots(len(inbox) + spare, *inbox, m2a(1, 9, value))
+                assert outcome[1:] == (1, after, true_summary((2, 3, 2), after), network[:SLOT] + sent)
 
 
 def received(label, plan, who, used):
-    """The messages in an inbox of 12 slots: its 1b and 2b are received one by one from N, beginning with a zero summary; the others stand
-    there before. The inbox and the summary, which says what the inbox does."""
-    here = [m for m in used if decode(m).kind not in ("1b", "2b")]
+    """The messages in an inbox of 12 slots: those that a receipt takes are received one by one from N, beginning with a zero summary; the
+    others stand there before. The inbox and the summary, which says what the inbox does."""
+    here = [m for m in used if not takes(4, decode(m))]
     inbox, summary = slots(12, *here), bytes(plan[0])
     for m in used:
         if m not in here:
@@ -136,7 +139,7 @@ def received(label, plan, who, used):
 
 
 def decisions():
-    """Decide: majorities by ballot and by value, for all instances (Commit) and for some instance (Abort). The votes are received first, so
+    """Decide: majorities by ballot and by value, for all instances (Commit) and for some instance (Abort). The messages are received first, so
     that the summary says what the inbox does."""
     for kind, v in ((7, PREPARED), (8, ABORTED)):
         w, some = 3 - v, 0 if kind == 8 else 12
@@ -169,6 +172,17 @@ def decisions():
                 (1, [m1b(0, 0, 1, (1, v)), m1b(0, 1, 1, (1, v))], 12),
                 (1, [m2a(0, 1, v), decision(v), m1a(0, 1)], 12),
                 (1, [decision(w), m2b(0, 0, 1, v), m2a(0, 1, w), m2b(0, 1, 1, v)], 0),
+                # a 2a at ballot 0 (document 02, Paper 6): aborted is enough for Abort, and prepared for nothing
+                (1, [m2a(0, 0, v)], some),
+                (1, [m2a(0, 0, w)], 12),
+                (1, [m2a(0, 0, w), m2a(0, 0, v)], some),
+                (1, [m2b(0, 1, 0, v), m2a(0, 0, v), m2b(0, 1, 3, v)], some),
+                (1, [m2b(0, 1, 4, v), m2a(0, 0, w), m2b(0, 2, 4, v)], 0),
+                (1, [m2b(0, 1, 0, w), m2b(0, 2, 0, w), m2a(0, 0, v)], some),
+                (2, [m2a(1, 0, v)], some),
+                (2, [m2a(1, 0, v), m2a(0, 0, v)], some),
+                (3, [m2a(1, 0, w), m1b(0, 0, 1), m2a(2, 0, w)], 12),
+                (3, [m2b(0, 0, 0, w), m2b(0, 1, 0, w), m2a(2, 0, v), m1b(1, 0, 1)], some),
                 # several instances
                 (2, [m2b(0, 0, 1, v), m2b(0, 1, 1, v)], some),
                 (2, [m2b(1, 0, 1, v), m2b(1, 1, 1, v)], some),
@@ -181,8 +195,8 @@ def decisions():
                 (3, [m2b(i, a, 0, v) for i, a in ((0, 0), (0, 1), (1, 0), (1, 1), (2, 0))], some),
                 (3, [m2b(i, a, i, v) for a in (2, 0) for i in range(3)], 0)]:
             for who in (0, 1):
-                table, summary = received("votes", (n, 3, 2), who, inbox)
-                call("votes", LEADER, (n, 3, 2), table, slots(2, decision(w)), other(kind, who), number, summary)
+                table, summary = received("decide", (n, 3, 2), who, inbox)
+                call("decide", LEADER, (n, 3, 2), table, slots(2, decision(w)), other(kind, who), number, summary)
 
         for a in (1, 7):
             inbox = [m2b(i, (i + x) % a, i, v) for i in range(16) for x in range(a // 2 + 1)]

@@ -1,4 +1,4 @@
-"""Calls of a leader's step for the summary (document 02, Paper 5): which receipts mark it, kinds 7 and 8 by it alone, and refusal 20."""
+"""Calls of a leader's step for the summary (document 02, Papers 5 and 6): which receipts mark it, kinds 7 and 8 by it alone, and refusal 20."""
 
 import itertools
 
@@ -19,9 +19,21 @@ def receive(label, plan, inbox, message, sets, who=0, number=0):
             assert outcome[3] == after, (label, plan, inbox, message, before, outcome)
 
 
+def receive_all(label, inbox, message, sets):
+    """The receipt under the plan 3, 3, 2 by both leaders; and in an inbox without room, where a message that is there is taken, and any other
+    is refused and marks nothing."""
+    for who in (0, 1):
+        receive(label, (3, 3, 2), slots(6, *inbox), message, sets, who)
+    full = slots(len(inbox), *inbox)
+    if message in inbox:
+        receive(label + ", in a full inbox", (3, 3, 2), full, message, sets)
+    else:
+        receive(label + ", 14", (3, 3, 2), full, message, None, number=14)
+
+
 def marks():
-    """Receipts under the plan 3, 3, 2 of the value v for instance i: the inbox before it, the message, and whether v's bit of i is set. The
-    bits of the other value and of other instances are never set, whatever the inbox says."""
+    """Receipts of the value v for instance i: the inbox before it, the message, and whether v's bit of i is set. The bits of the other value
+    and of other instances are never set, whatever the inbox says."""
     for i, v in itertools.product((0, 2), (PREPARED, ABORTED)):
         w, j, vote = 3 - v, 1, lambda a, b=4: m2b(i, a, b, v)
         for label, inbox, message, does in [
@@ -54,16 +66,44 @@ def marks():
                 ("no votes", [m1b(i, 0, 4, (4, v)), m2a(i, 4, v), m1a(i, 4), decision(v)], vote(1), False),
                 ("a promise", [m1b(i, 0, 5, (4, v))], m1b(i, 1, 5, (4, v)), False),
                 ("a promise, where v is decided", [vote(0), vote(1)], m1b(i, 1, 5, (4, v)), False),
-                ("a promise without a vote, where v is decided", [vote(0), vote(1)], m1b(i, 2, 5), False)]:
-            for who in (0, 1):
-                receive(label, (3, 3, 2), slots(6, *inbox), message, (i, v) if does else None, who)
-            if message in inbox:
-                receive(label + ", in a full inbox", (3, 3, 2), slots(len(inbox), *inbox), message, (i, v) if does else None)
-            else:
-                # a refused receipt marks nothing
-                receive(label + ", 14", (3, 3, 2), slots(len(inbox), *inbox), message, None, number=14)
-        for message in (m1a(i, 4), m2a(i, 4, v), decision(v)):
-            receive("9, where v is decided", (3, 3, 2), slots(4, vote(0), vote(1)), message, None, number=9)
+                ("a promise without a vote, where v is decided", [vote(0), vote(1)], m1b(i, 2, 5), False),
+                # beside the 2a at ballot 0 a vote marks by Decided alone
+                ("beside the 2a, no majority", [m2a(i, 0, v)], vote(1, 0), False),
+                ("beside the 2a, repeated", [m2a(i, 0, v), vote(1, 0)], vote(1, 0), False),
+                ("beside the 2a, two ballots", [vote(0, 0), m2a(i, 0, v)], vote(1), False),
+                ("beside the 2a, a majority", [vote(0, 0), m2a(i, 0, v)], vote(1, 0), True),
+                ("beside the other 2a, no majority", [m2a(i, 0, w)], vote(1, 0), False),
+                ("beside the other 2a, a majority", [m2a(i, 0, w), vote(0)], vote(1), True),
+                ("a promise beside the 2a", [m2a(i, 0, v)], m1b(i, 1, 5, (0, v)), False)]:
+            receive_all(label, inbox, message, (i, v) if does else None)
+
+
+def proposals():
+    """Receipts of a 2a for instance i. At ballot 0 aborted sets its bit, whatever the inbox holds, and prepared none; at any other ballot the 2a
+    is refused, before 14 too, as a 1a and a decision are."""
+    for i, v in itertools.product((0, 2), (PREPARED, ABORTED)):
+        w, j, message = 3 - v, 1, m2a(i, 0, v)
+        votes = lambda value, b=4: [m2b(i, 0, b, value), m2b(i, 2, b, value)]
+        for label, inbox in [
+                ("alone", []),
+                ("repeated", [message]),
+                ("repeated, after others", [m1a(i, 4), decision(v), m1b(i, 0, 4), m2b(i, 0, 0, v), message]),
+                ("after the other value", [m2a(i, 0, w)]),
+                ("after another instance", [m2a(j, 0, v)]),
+                ("after other ballots", [m2a(i, 1, v), m2a(i, 255, v)]),
+                ("after a vote", [m2b(i, 1, 0, v)]),
+                ("where v is decided", votes(v)),
+                ("where v is decided at ballot 0", votes(v, 0)),
+                ("where the other value is decided", votes(w)),
+                ("after promises", [m1b(i, 0, 4), m1b(i, 1, 4, (0, v))])]:
+            receive_all("a 2a at ballot 0, " + label, inbox, message, (i, v) if v == ABORTED else None)
+        for used in ([], votes(v), [message]):
+            for refused in (m1a(i, 4), decision(v), *(m2a(i, b, v) for b in (1, 3, 4, 255))):
+                for room in (0, 2):
+                    receive("9", (3, 3, 2), slots(len(used) + room, *used), refused, None, number=9)
+    for n, i, who in ((1, 0, 0), (16, 0, 3), (16, 7, 1), (16, 15, 3)):
+        for v in (PREPARED, ABORTED):
+            receive("a 2a of %d instances" % n, (n, 7, 4), slots(1), m2a(i, 0, v), (i, v) if v == ABORTED else None, who)
 
 
 def majorities():
@@ -89,6 +129,7 @@ def reads():
             call(label, LEADER, plan, inbox, network, other(kind, who), 0 if enabled else 12, summary)
     for n in (1, 2):
         says = [[]] + [[m2b(i, a, 1, v) for v in values for i in range(n) for a in (0, 2)] for values in ((1,), (2,), (1, 2))]
+        says += [[m2a(i, 0, v) for i in range(n)] for v in (PREPARED, ABORTED)]
         for summary in itertools.product(range(4), repeat=n):
             for used in says:
                 decide("by the summary", (n, 3, 2), slots(len(used), *used), bytes(summary), n - 1)
@@ -138,4 +179,4 @@ def refused():
         call("1 before 20", LEADER, (2, 3, 5), inbox, network, events[0], 1, summary)
 
 
-SECTIONS = [marks, majorities, reads, others, refused]
+SECTIONS = [marks, proposals, majorities, reads, others, refused]

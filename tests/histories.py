@@ -20,6 +20,7 @@ The digest is of the five tables after the call, so it shows a byte that a refus
 other, as a number with the lowest byte first, modulo a prime.
 """
 
+import itertools
 import random
 
 from calls import decision, m1a, m1b, m2a, m2b, other, proposing, reading, slots
@@ -28,11 +29,11 @@ from model import (
     COMMITTED,
     EVENT,
     LEADER,
-    MAPS,
     RM_ABORTED,
     SLOT,
     Plan,
     Record,
+    decode,
     event_call,
     leader_tables,
     open_record,
@@ -42,6 +43,7 @@ from model import (
     run_call,
     set_bytes,
     standing,
+    takes,
     zeros,
 )
 
@@ -159,16 +161,15 @@ def schedules():
             history.event(next_event(rng, history.plan, history.record))
 
 
-def quick_event(rng, plan, kinds, ballots):
-    """An event of any kind; `kinds` are the kinds of the messages in N."""
+def quick_event(rng, plan, sent, ballots):
+    """An event of any kind; `sent` are the messages in N."""
     n, a, l = plan[:3]
     kind = rng.choices(range(9), (1, 0.3, 2, 9, 9, 3, 3, 0.2, 0.2))[0]
     if kind in (2, 3, 4):
         who = rng.randrange((n, a, l)[kind - 2])
-        fitting = {2: ("decision",), 3: ("1a", "2a"), 4: ("1b", "2b")}[kind]
-        places = [k for k, m in enumerate(kinds) if m in fitting]
+        places = [k for k, m in enumerate(sent) if takes(kind, m)]
         recent = places[-30:] if rng.random() < 0.6 else places
-        return reading(kind, who, rng.choice(recent) if recent and rng.random() < 0.95 else rng.randrange(len(kinds) + 2))
+        return reading(kind, who, rng.choice(recent) if recent and rng.random() < 0.95 else rng.randrange(len(sent) + 2))
     if kind in (5, 6):
         ballot = rng.randint(1, ballots)
         return proposing(kind, owner(plan, ballot) if rng.random() < 0.95 else rng.randrange(l), rng.randrange(n), ballot)
@@ -176,20 +177,34 @@ def quick_event(rng, plan, kinds, ballots):
 
 
 class Quick:
-    """Random events on a history; the kinds of the messages in N are kept, so that a slot is chosen quickly."""
+    """Random events on a history; the messages in N are kept, so that a slot is chosen quickly."""
 
     def __init__(self, rng, history, ballots):
-        self.rng, self.history, self.ballots, self.kinds = rng, history, ballots, []
+        self.rng, self.history, self.ballots, self.sent = rng, history, ballots, []
 
     def make(self, event, number=None):
         outcome = self.history.event(event, number)
-        if outcome[0] == 0 and outcome[1] == len(self.kinds):
-            self.kinds.append(MAPS[self.history.record.network[SLOT * outcome[1]]])
+        if outcome[0] == 0 and outcome[1] == len(self.sent):
+            self.sent.append(decode(self.history.record.network[SLOT * outcome[1]:][:SLOT]))
         return outcome
 
     def make_any(self, count):
         for _ in range(count):
-            self.make(quick_event(self.rng, self.history.plan, self.kinds, self.ballots))
+            self.make(quick_event(self.rng, self.history.plan, self.sent, self.ballots))
+
+    def gather(self, leader):
+        """Every vote in N into the inbox of a leader."""
+        for slot, m in enumerate(self.sent):
+            if m.kind == "2b":
+                self.make(reading(4, leader, slot), 0)
+
+    def end(self, leader, kind):
+        """The leader decides by kind 7 or 8, every weight takes the decision, and events go on."""
+        slot = self.make(other(kind, leader), 0)[1]
+        for i in range(self.history.plan.rms):
+            self.make(reading(2, i, slot), 0)
+        assert set(self.history.record.states) == {COMMITTED if kind == 7 else RM_ABORTED}
+        self.make_any(100)
 
 
 def commits():
@@ -209,15 +224,27 @@ def commits():
             quick.make(reading(3, acc, slot), 0)
         quick.make_any(400)
         leader = rng.randrange(l)
-        for slot, kind in enumerate(quick.kinds):
-            if kind == "2b":
-                quick.make(reading(4, leader, slot), 0)
+        quick.gather(leader)
         quick.make(other(8, leader), 12)
-        slot = quick.make(other(7, leader), 0)[1]
-        for i in range(n):
-            quick.make(reading(2, i, slot), 0)
-        assert set(history.record.states) == {COMMITTED}
-        quick.make_any(100)
+        quick.end(leader, 7)
+
+
+def declines():
+    """One weight declines and the others prepare; then leaders compete, with late and repeated messages. Whatever was voted for it, no leader
+    can decide Commit, and whichever takes the decline decides Abort (document 02, Paper 6)."""
+    rng = random.Random(19)
+    for plan in ((2, 7, 4), (3, 3, 2), (1, 4, 3)):
+        n, _, l = plan
+        history = History("decline under %d %d %d" % plan, plan, zeros(plan, 400, 300))
+        quick = Quick(rng, history, 12)
+        weight = rng.randrange(n)
+        said = [quick.make(other(1 if i == weight else 0, i), 0)[1] for i in range(n)]
+        quick.make_any(300)
+        leader = rng.randrange(l)
+        quick.gather(leader)
+        quick.make(other(7, leader), 12)
+        quick.make(reading(4, leader, said[weight]), 0)
+        quick.end(leader, 8)
 
 
 def long_histories():
@@ -356,7 +383,11 @@ def later_rows():
     closed = with_(inboxes=INBOXES[:SLOT * 2] + INBOXES[SLOT * 3:SLOT * 5])
     given("8", SOUND, *((reading(kind, 0, slot), 8) for kind in (2, 3, 4) for slot in (5, 6, 256, 65535)))
     given("9", SOUND, (reading(2, 0, 0), 9), (reading(2, 0, 1), 9), (reading(3, 0, 2), 9), (reading(3, 0, 3), 9),
-          (reading(4, 0, 0), 9), (reading(4, 0, 1), 9), (reading(4, 0, 4), 9))
+          (reading(4, 0, 1), 9), (reading(4, 0, 4), 9))
+    for ballot, value in itertools.product((0, 1, 3, 255), (1, 2)):
+        proposed = slots(1, m2a(0, ballot, value))
+        given("9 for a 2a from ballot 1 on", with_(network=proposed), *((reading(4, who, 0), 9 if ballot else 0) for who in (0, 1)))
+        given("9 and 14", with_(network=proposed, inboxes=closed.inboxes), (reading(4, 0, 0), 9 if ballot else 14))
     given("10", SOUND, *((proposing(kind, who, 0, ballot), 10) for kind in (5, 6) for who, ballot in ((0, 0), (0, 2), (1, 1), (1, 0))))
     for first, second in ((x, y) for x in range(4) for y in range(4)):
         for who, state in enumerate((first, second)):
@@ -369,7 +400,7 @@ def later_rows():
     given("12 and 13", full, (other(0, 0), 12), (other(7, 0), 12), (proposing(6, 1, 1, 2), 12))
     given("10 and 12", SOUND, (proposing(6, 1, 1, 1), 10), (proposing(6, 0, 1, 2), 10))
     given("10 and 13", full, (proposing(5, 1, 0, 3), 10))
-    given("9 and 14", closed, (reading(4, 0, 0), 9))
+    given("9 and 14", closed, (reading(4, 0, 1), 9))
     # Phase2a of leader 1: its inbox is the second part of I
     ready = slots(2, m1b(0, 0, 2), m1b(0, 1, 2, (0, 1)))
     for network, room, number in ((NETWORK, 1, 0), (NETWORK, 0, 14), (full.network, 1, 13), (full.network, 0, 13),
@@ -546,7 +577,7 @@ def lists_between():
             history.event(next_event(rng, history.plan, history.record))
 
 
-SECTIONS = [schedules, commits, long_histories, small_tables, junk, openings, damaged, later_rows, given_tables, orders,
+SECTIONS = [schedules, commits, declines, long_histories, small_tables, junk, openings, damaged, later_rows, given_tables, orders,
             again, refused_lists, damaged_lists, empty_lists, mixed_lists, lists_between]
 
 

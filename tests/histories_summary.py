@@ -1,12 +1,12 @@
-"""Histories of the summary (document 02, Paper 5): which receipts mark it, kinds 7 and 8 by it alone, each leader's bytes apart from the
-others', and refusal 20 in event calls and in lists. Such openings stand in tests/histories.py, where every history from an opened record is
-compared with the calls without a summary, and each byte with its inbox.
+"""Histories of the summary (document 02, Papers 5 and 6): which receipts mark it, kinds 7 and 8 by it alone, each leader's bytes apart from the
+others', an abort that is heard early, and refusal 20 in event calls and in lists. Such openings stand in tests/histories.py, where every
+history from an opened record is compared with the calls without a summary, and each byte with its inbox.
 """
 
 import itertools
 
 from calls import decision, m1a, m1b, m2a, m2b, other, proposing, reading, slots
-from histories import GIVEN, OPENED, History
+from histories import GIVEN, OPENED, History, joined
 from model import ABORTED, EVENT, PREPARED, SLOT, Plan, Record, set_bytes, zeros
 
 PLAN = Plan(2, 3, 2)
@@ -14,6 +14,9 @@ PLAN = Plan(2, 3, 2)
 # weight 0 as prepared.
 NETWORK = slots(10, m2b(0, 0, 0, PREPARED), m2b(0, 1, 0, PREPARED), m2b(0, 2, 0, PREPARED), m2b(0, 2, 2, PREPARED), m2b(1, 0, 1, ABORTED),
                 m2b(1, 1, 1, ABORTED), m1b(0, 2, 3, (0, PREPARED)))
+# N: at ballot 0 weight 0 says that it is prepared, and weight 1 that it aborts, for which there are two votes; 2a of other ballots; a 1a; Abort.
+DECLINED = slots(12, m2a(0, 0, PREPARED), m2a(1, 0, ABORTED), m2b(1, 0, 0, ABORTED), m2b(1, 2, 0, ABORTED), m2a(1, 1, ABORTED),
+                 m2a(0, 3, PREPARED), m2a(1, 255, ABORTED), m1a(1, 1), decision(ABORTED))
 FULL = bytes([2, 1, 3, 3])
 
 
@@ -23,14 +26,20 @@ def record_of(summary, inboxes=(), room=4, network=NETWORK):
     return Record(bytes([1, 0]), bytes(18), network, b"".join(parts), bytes(summary))
 
 
+def take(who, slot):
+    return reading(4, who, slot)
+
+
+def steps(label, record, *events):
+    """Event by event from a given record, with the number and the whole summary after each."""
+    history = History(label, PLAN, record, GIVEN)
+    for event, number, summary in events:
+        history.event(event, number)
+        assert history.record.summary == bytes(summary), (label, event, history.record)
+
+
 def marks():
-    """Receipts of both leaders, event by event, with the whole summary after each. Each leader's bytes follow its own inbox."""
-    def steps(label, record, *steps):
-        history = History(label, PLAN, record, GIVEN)
-        for event, number, summary in steps:
-            history.event(event, number)
-            assert history.record.summary == bytes(summary), (label, event, history.record)
-    take = lambda who, slot: reading(4, who, slot)
+    """Receipts of both leaders. Each leader's bytes follow its own inbox."""
     steps("leader 0 alone", record_of([0] * 4),
           (take(0, 0), 0, [0, 0, 0, 0]), (take(0, 3), 0, [0, 0, 0, 0]), (take(0, 1), 0, [1, 0, 0, 0]), (take(0, 4), 0, [1, 0, 0, 0]),
           (take(0, 5), 14, [1, 0, 0, 0]), (take(0, 0), 0, [1, 0, 0, 0]), (other(7, 0), 12, [1, 0, 0, 0]), (other(8, 0), 12, [1, 0, 0, 0]))
@@ -59,7 +68,30 @@ def marks():
     quorum = [m1b(0, 0, 1), m1b(0, 1, 1)]
     steps("other events", record_of(FULL, (quorum, votes), network=slots(12, m2a(0, 0, PREPARED), m1a(1, 2), decision(PREPARED))),
           (proposing(6, 0, 0, 1), 0, FULL), (proposing(5, 1, 1, 2), 0, FULL), (reading(3, 0, 0), 0, FULL), (reading(3, 2, 1), 0, FULL),
-          (other(1, 1), 0, FULL), (reading(2, 0, 2), 0, FULL), (bytes([9, 0, 0, 0]), 7, FULL), (take(1, 0), 9, FULL), (take(1, 11), 8, FULL))
+          (other(1, 1), 0, FULL), (reading(2, 0, 2), 0, FULL), (bytes([9, 0, 0, 0]), 7, FULL), (take(1, 3), 9, FULL), (take(1, 11), 8, FULL))
+
+
+def declines():
+    """Document 02, Paper 6: receipts of a 2a at ballot 0. Kind 8 goes by the bit that aborted sets; kind 7 has no regard to it."""
+    decline, none = m2a(1, 0, ABORTED), [0] * 4
+    steps("a decline alone", record_of(none, network=DECLINED),
+          (other(8, 0), 12, none), (take(0, 1), 0, [0, 2, 0, 0]), (other(8, 1), 12, [0, 2, 0, 0]), (other(8, 0), 0, [0, 2, 0, 0]),
+          (other(7, 0), 12, [0, 2, 0, 0]), (take(1, 1), 0, [0, 2, 0, 2]), (other(8, 1), 0, [0, 2, 0, 2]))
+    steps("a decline among others", record_of(none, network=DECLINED),
+          (take(1, 0), 0, none), (other(8, 1), 12, none), (take(1, 2), 0, none), (other(8, 1), 12, none), (take(1, 1), 0, [0, 0, 0, 2]),
+          (take(1, 3), 0, [0, 0, 0, 2]), (take(1, 1), 0, [0, 0, 0, 2]), (other(8, 0), 12, [0, 0, 0, 2]), (other(8, 1), 0, [0, 0, 0, 2]))
+    steps("9 for other 2a", record_of(FULL, network=DECLINED), *((take(who, slot), 9, FULL) for who in (0, 1) for slot in range(4, 9)))
+    # the bit is clear though the 2a is in the inbox: a vote without a majority sets none, the 2a again does, also where there is no room
+    steps("a summary behind a decline", record_of(none, ([decline],) * 2, 2, DECLINED),
+          (other(8, 0), 12, none), (take(0, 2), 0, none), (take(0, 2), 0, none), (other(8, 0), 12, none), (take(0, 3), 14, none),
+          (take(0, 0), 14, none), (take(0, 4), 9, none), (take(0, 1), 0, [0, 2, 0, 0]), (take(1, 0), 0, [0, 2, 0, 0]))
+    steps("votes beside a decline", record_of(none, ([decline],) * 2, 3, DECLINED),
+          (take(1, 2), 0, none), (take(1, 3), 0, [0, 0, 0, 2]), (take(1, 0), 14, [0, 0, 0, 2]), (other(8, 1), 0, [0, 0, 0, 2]))
+    steps("no room for a decline", record_of([0, 1, 2, 0], network=DECLINED, room=0),
+          (take(0, 1), 14, [0, 1, 2, 0]), (take(1, 0), 14, [0, 1, 2, 0]), (take(1, 6), 9, [0, 1, 2, 0]), (other(8, 0), 12, [0, 1, 2, 0]))
+    steps("kind 7 beside a decline", record_of([1, 1, 1, 0], network=DECLINED),
+          (take(0, 1), 0, [1, 3, 1, 0]), (other(7, 0), 0, [1, 3, 1, 0]), (other(8, 0), 0, [1, 3, 1, 0]), (take(1, 1), 0, [1, 3, 1, 2]),
+          (other(7, 1), 12, [1, 3, 1, 2]), (take(1, 0), 0, [1, 3, 1, 2]), (other(7, 1), 12, [1, 3, 1, 2]))
 
 
 def reads():
@@ -71,7 +103,8 @@ def reads():
             for kind, enabled in ((7, all(x & 1 for x in own)), (8, any(x & 2 for x in own))):
                 History(label, plan, record, GIVEN, shown=False).event(other(kind, who), 0 if enabled else 12)
     one = Plan(1, 1, 2)
-    inboxes = (slots(4), slots(2, m2b(0, 0, 0, PREPARED), m2b(0, 0, 1, ABORTED)) * 2, slots(2) + slots(2, m2b(0, 0, 0, PREPARED)))
+    inboxes = (slots(4), slots(2, m2b(0, 0, 0, PREPARED), m2b(0, 0, 1, ABORTED)) * 2, slots(2) + slots(2, m2b(0, 0, 0, PREPARED)),
+               slots(1, m2a(0, 0, ABORTED)) + slots(1, m2a(0, 0, PREPARED)))
     for summary, inbox in itertools.product(itertools.product(range(4), repeat=2), inboxes):
         decide("one weight by the summary", one, Record(bytes(1), bytes(3), slots(2), inbox, bytes(summary)))
     for own in itertools.product(range(4), repeat=2):
@@ -108,7 +141,6 @@ def refused():
 
 def lists():
     """Lists in which receipts mark and decisions read what they left, also on other summaries; 20 of a whole list, and 19 before it."""
-    take = lambda who, slot: reading(4, who, slot)
     events = b"".join([take(0, 0), other(7, 0), take(0, 1), other(8, 0), take(0, 4), take(0, 5), other(8, 0), take(1, 0), other(8, 1), take(1, 2),
                        take(1, 5), take(1, 4), other(8, 1), other(7, 1)])
     for room, summary, answers in (
@@ -152,4 +184,21 @@ def opened():
         history.event(other(7, 1), 0)
 
 
-SECTIONS = [marks, reads, refused, lists, opened]
+def declined():
+    """From an opened record: weight 1 declines, no acceptor votes, and the order is aborted once a leader hears it. In two lists, cut at each
+    place; and with inboxes of one slot, where it is not heard by a leader that took the other 2a before."""
+    told = [(other(0, 0), 0), (other(8, 0), 12), (other(1, 1), 0), (take(0, 0), 0), (other(8, 0), 12), (take(0, 1), 0), (other(7, 0), 12),
+            (other(8, 1), 12), (other(8, 0), 0), (reading(2, 0, 2), 0), (reading(2, 1, 2), 0), (take(1, 2), 9), (take(1, 1), 0), (other(8, 1), 0)]
+    for cut in range(len(told) + 1):
+        history = History("a list that declines, cut at %d" % cut, PLAN, zeros(PLAN, 4, 2), shown=cut == 0)
+        for part in (told[:cut], told[cut:]):
+            events, answers = joined(part)
+            history.run(events, 0, answers)
+        assert (history.record.states, history.record.summary) == (bytes([3, 3]), bytes([0, 2, 0, 2]))
+    history = History("one slot for a decline", PLAN, zeros(PLAN, 4, 1))
+    for event, number in ((other(0, 0), 0), (other(1, 1), 0), (take(0, 0), 0), (take(0, 1), 14), (other(8, 0), 12), (take(1, 1), 0),
+                          (take(1, 0), 14), (take(1, 1), 0), (other(8, 1), 0), (reading(2, 0, 2), 0)):
+        history.event(event, number)
+
+
+SECTIONS = [marks, declines, reads, refused, lists, opened, declined]

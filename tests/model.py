@@ -4,7 +4,8 @@ events, the three role calls, the record (opening, the event call and the list c
     read, write                         the reader and the writer
     role_call                           the step of a resource manager, an acceptor or a leader as a call by itself
     open_record, event_call, run_call   the record's three calls
-    standing                            what each byte of a summary is to say of its inbox (document 02, Paper 5)
+    takes                               whether an event of kind 2, 3 or 4 takes a message
+    standing                            what each byte of a summary is to say of its inbox (document 02, Papers 5 and 6)
     rehearse                            what the rehearsal prints
 
 A resource manager is document 01's weight. A call gives a tuple: 0, then what is accepted, or the refusal's number alone.
@@ -210,12 +211,18 @@ class LeaderTables(NamedTuple):
     summary: Optional[bytes]
 
 
-def slot_read(network, high, low, kinds):
+def takes(kind, m):
+    """Whether an event of kind 2, 3 or 4 takes a message: one that its row names, and a receipt also a 2a at ballot 0 (document 02, Paper 6)."""
+    named = {2: ["decision"], 3: ["1a", "2a"], 4: ["1b", "2b"]}
+    return m.kind in named[kind] or (kind, m.kind, m.bal) == (4, "2a", 0)
+
+
+def slot_read(kind, network, high, low):
     """The message in the slot of kinds 2, 3 and 4: rows 8 and 9."""
     slots, place = slots_of(network), 256 * high + low
     refuse_if(place >= len(slots) or slots[place] == UNUSED, 8)
     message = decode(slots[place])
-    refuse_if(message.kind not in kinds, 9)
+    refuse_if(not takes(kind, message), 9)
     return message
 
 
@@ -230,14 +237,14 @@ def leave_working(state, value):
 
 def rm_receive(plan, states, network, who, high, low):
     """RMRcvCommitMsg and RMRcvAbortMsg."""
-    commit = slot_read(network, high, low, ["decision"]).val == COMMIT
+    commit = slot_read(2, network, high, low).val == COMMIT
     refuse_if(states[who] in ((WORKING, RM_ABORTED) if commit else (COMMITTED,)), 11)
     return None, set_bytes(states, who, [COMMITTED if commit else RM_ABORTED]), network
 
 
 def acceptor_receive(plan, votes, network, who, high, low):
     """Phase1b and Phase2b."""
-    m = slot_read(network, high, low, ["1a", "2a"])
+    m = slot_read(3, network, high, low)
     at = 3 * (m.ins * plan.acceptors + who)
     mbal, bal, val = votes[at:at + 3]
     if m.kind == "1a":
@@ -255,16 +262,23 @@ def bit_of(value):
     return 1 << value - 1
 
 
+def decline(i):
+    """The 2a by which resource manager i says that it aborts. Its instance can choose aborted alone (document 001, section 4.2)."""
+    return Message("2a", ins=i, bal=0, val=ABORTED)
+
+
 def marked(plan, tables, m):
-    """The summary after a receipt that left this inbox: a 2b of (i, v) sets v's bit of byte i where Decided(i, v) holds now."""
+    """The summary after a receipt that left this inbox: a 2b of (i, v) sets v's bit of byte i where Decided(i, v) holds now, and a decline sets
+    the bit of aborted. Beside a decline a 2b marks by Decided alone."""
     inbox, summary = tables
-    if summary is None or m.kind != "2b" or not is_decided(plan, inbox, m.ins, m.val):
+    marks = m == decline(m.ins) or m.kind == "2b" and is_decided(plan, inbox, m.ins, m.val)
+    if summary is None or not marks:
         return summary
     return set_bytes(summary, m.ins, [summary[m.ins] | bit_of(m.val)])
 
 
 def receipt(plan, tables, network, who, high, low):
-    message = slot_read(network, high, low, ["1b", "2b"])
+    message = slot_read(4, network, high, low)
     _, inbox = put(plan, tables.inbox, message, 14)
     tables = tables._replace(inbox=inbox)
     return None, tables._replace(summary=marked(plan, tables, message)), network
@@ -314,11 +328,14 @@ def is_decided(plan, inbox, i, v):
 
 
 def standing(plan, inbox):
-    """What the inbox says, a byte for each instance: the bits of the values that are Decided. Each ballot's votes are gathered in one pass."""
+    """What the inbox says, a byte for each instance: the bits of the values that are Decided, and that of aborted where the decline is there.
+    Each ballot's votes are gathered in one pass."""
     voters, said = {}, [0] * plan.rms
     for m in messages(inbox):
         if m.kind == "2b":
             voters.setdefault((m.ins, m.bal, m.val), set()).add(m.acc)
+        if m == decline(m.ins):
+            said[m.ins] |= bit_of(ABORTED)
     for (i, _, v), acceptors in voters.items():
         if is_majority(plan, acceptors):
             said[i] |= bit_of(v)
@@ -326,9 +343,10 @@ def standing(plan, inbox):
 
 
 def stands(plan, tables, i, v):
-    """Whether kinds 7 and 8 take v as Decided for i: the summary alone says so; without one, the inbox."""
+    """Whether v stands for i, as kinds 7 and 8 ask: the summary alone says so; without one, the inbox, where v is Decided or, if v is aborted,
+    the decline is there."""
     if tables.summary is None:
-        return is_decided(plan, tables.inbox, i, v)
+        return is_decided(plan, tables.inbox, i, v) or v == ABORTED and decline(i) in messages(tables.inbox)
     return tables.summary[i] & bit_of(v) != 0
 
 

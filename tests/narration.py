@@ -1,7 +1,8 @@
-"""What the program crates/narration prints, worked out from document 01 by tests/model.py, and the history that is stored for it.
+"""What the program crates/narration prints, worked out from documents 01 and 02 by tests/model.py, and the history that is stored for it.
 
 For each event three lines: what is tried, with the message in its slot of N; what the call answers, with the message that
-stands in the answered slot; and the states of all weights. Last one of the words COMMITTED, ABORTED and OPEN.
+stands in the answered slot, or with the weight that a leader hears decline; and the states of all weights. Last one of the words COMMITTED,
+ABORTED and OPEN.
 """
 
 from calls import other, proposing, reading
@@ -11,6 +12,7 @@ from model import (
     UNUSED,
     Plan,
     Refused,
+    decline,
     decode,
     event_call,
     judge_event,
@@ -88,6 +90,17 @@ def event_in_words(plan, network, event):
     ][kind]
 
 
+def answer_in_words(event, outcome):
+    """What the call of an event answers."""
+    if outcome[0] != 0:
+        return refusal(outcome[0])
+    _, slot, record = outcome
+    if slot is not None:
+        return "accepted, stands in %s" % slot_in_words(record.network, slot)
+    taken = decode(slots_of(record.network)[256 * event[2] + event[3]])
+    return "accepted: weight %d declines, so the order can be aborted at once" % taken.ins if taken == decline(taken.ins) else "accepted"
+
+
 def narrate(text):
     """What the narration prints for the bytes of its standard input."""
     if len(text) < 5:
@@ -101,12 +114,8 @@ def narrate(text):
         event = events[at:at + 4]
         lines.append("%d. %s" % (k + 1, event_in_words(plan, record.network, event)))
         outcome = event_call(plan, record, event)
-        answer = refusal(outcome[0]) if outcome[0] != 0 else "accepted"
-        if outcome[0] == 0:
-            record = outcome[2]
-            if outcome[1] is not None:
-                answer += ", stands in %s" % slot_in_words(record.network, outcome[1])
-        lines += ["    " + answer, "    weights: " + " ".join(STATES[state] for state in record.states)]
+        record = outcome[2] if outcome[0] == 0 else record
+        lines += ["    " + answer_in_words(event, outcome), "    weights: " + " ".join(STATES[state] for state in record.states)]
     ends = {2: "COMMITTED", 3: "ABORTED"}
     same = len(set(record.states)) == 1
     return "\n".join(lines + [ends.get(record.states[0], "OPEN") if same else "OPEN"]) + "\n"

@@ -5,8 +5,8 @@
     NAME.narration        what the narration prints
     NAME.narration-end    its last lines, where all would be long
 
-Histories that end COMMITTED, ABORTED and OPEN, leaders that compete, a bad and a cut plan, a cut event, more events than are made,
-and each number that a rehearsal can print: 0, 1, 7, 8, 9, 10, 12 and 13. It can't print 14: a message stands in an inbox once, and in N
+Histories that end COMMITTED, ABORTED and OPEN, an abort heard early, leaders that compete, a bad and a cut plan, a cut event, more events than
+are made, and each number that a rehearsal can print: 0, 1, 7, 8, 9, 10, 12 and 13. It can't print 14: a message stands in an inbox once, and in N
 too, and N has no more slots than an inbox; so where an inbox is full, it holds every message of N.
 """
 
@@ -43,6 +43,20 @@ def aborted():
         reading(4, 0, 5), reading(4, 0, 6),
         other(8, 0),                                    # 7: Abort
         reading(2, 0, 7), reading(2, 1, 7),
+    ]
+
+
+def declined():
+    """Weight 1 of three chooses to abort, and the leader hears that from the weight itself. No acceptor has voted, and none needs to: weight 1
+    never says prepared at ballot 0, so its instance can choose aborted alone, and the order is dead (document 001, section 4.2). That the others
+    are prepared tells the leader nothing."""
+    return plan_bytes((3, 3, 1)), [
+        other(0, 0), other(1, 1), other(0, 2),          # 0, 1, 2: 2a of the three weights
+        reading(4, 0, 0), other(8, 0),                  # not enabled: weight 0 is prepared
+        reading(4, 0, 1), other(7, 0),                  # weight 1 declines
+        other(8, 0),                                    # 3: Abort
+        reading(2, 0, 3), reading(2, 1, 3), reading(2, 2, 3),
+        reading(4, 0, 1),                               # again
     ]
 
 
@@ -83,11 +97,13 @@ def refusals():
         bytes([9, 0, 0, 0]), bytes([0, 2, 0, 0]), bytes([0, 0, 0, 1]), proposing(5, 0, 2, 2),        # 7
         reading(2, 0, 0), reading(3, 0, 1023), reading(4, 0, 1024),                                 # 8
         other(0, 0),                                                                                # 0: 2a
-        reading(2, 0, 0), reading(4, 0, 0),                                                         # 9
+        reading(2, 0, 0),                                                                           # 9
         proposing(5, 0, 0, 0), proposing(5, 1, 0, 1), proposing(6, 0, 0, 2),                        # 10
         other(0, 0), other(1, 0), proposing(6, 1, 0, 2), other(7, 0), other(8, 1),                  # 12
         proposing(5, 1, 0, 2), reading(3, 1, 1), reading(3, 1, 1),                                  # 1, 2; 12 again
-        reading(3, 1, 2), reading(2, 1, 1),                                                         # 9 for a 1b and a 1a
+        reading(3, 1, 2), reading(2, 1, 1), reading(4, 0, 1),                                       # 9 for a 1b and twice for a 1a
+        reading(3, 2, 1), reading(4, 1, 2), reading(4, 1, 3), proposing(6, 1, 0, 2),                # 3; 4: a 2a at ballot 2
+        reading(4, 0, 4), reading(4, 0, 0),                                                         # 9 for it, not for one at ballot 0
     ]
 
 
@@ -108,6 +124,7 @@ def no_events():
 STORIES = [
     ("committed", committed(), "COMMITTED"),
     ("aborted", aborted(), "ABORTED"),
+    ("declined", declined(), "ABORTED"),
     ("open", opened(), "OPEN"),
     ("competing", competing(), "COMMITTED"),
     ("refusals", refusals(), "OPEN"),

@@ -1,20 +1,23 @@
--- Hosts that are apart implement module PaxosCommit as published: each list of genuine happenings from fresh hosts is a behaviour of PCSpec, with what
--- was sent as msgs, so the theorems of document 001 (paxos_commit's Theorems.antt) hold of it.
+-- Hosts that are apart implement module PaxosCommit with Decide widened (document 02, Paper 6): each list of genuine happenings from fresh hosts is a
+-- behaviour of WidenedSpec, with what was sent as msgs, so the theorems of document 001 (paxos_commit's Theorems.antt) hold of it.
 --     published-means     the variables: byte i of weight i's W, entry (i, a) of acceptor a's Q, the messages that were sent
---     hosts-published     every genuine happening after every list of genuine ones is an action of PCNext, or leaves the variables
+--     hosts-published     every genuine happening after every list of genuine ones is an action of PCNext, or Abort sent where a weight has
+--                         declined, or leaves the variables
 --     stateAt             the state at time n: what the first n happenings of a list leave
---     hosts-behaviour     it is a behaviour of PCSpec
+--     hosts-behaviour     it is a behaviour of WidenedSpec
 --     hosts-commits       so the row of weight states is one of TCSpec
 -- Assumes nothing.
 use Prim.Native.Nat.{ℕ, zero, suc}
 use mathlib.Core.List.{List, [], _∷_}
-use mathlib.Core.Logic.{inr}
+use mathlib.Core.Logic.{_⊎_, inl, inr, ⊎-elim}
 use mathlib.Core.Path.{_≡_, refl}
 use lib.ListN.{getD, take}
 use Rattle.message.specs.declared.Plan.{Plan}
 use Rattle.tcommit.specs.TCommit.{TCSpec}
-use Rattle.paxos_commit.specs.PaxosCommit.{State, PCStep, PCSpec}
-use Rattle.paxos_commit.specs.Theorems.{paxos-commit-implements}
+use Rattle.paxos_commit.specs.PaxosCommit.{State, PCStep}
+use Rattle.paxos_commit.specs.Widened.{WidenedStep, WidenedSpec}
+use Rattle.paxos_commit.specs.Theorems.{widened-paxos-commit-implements}
+use Rattle.paxos_commit.specs.Words.{EarlyAbort, widened-next}
 use Rattle.matching.specs.Reading.{isRM, isAcceptor, isMajoritySet, aStateOf, setOf}
 use Rattle.matching.specs.Theorems.{majorities-meet}
 use Rattle.apart.specs.Hosts.{rm, acceptor, System, Happening, made, Genuine, row, published, Fresh, systemAfter, AllGenuine}
@@ -34,7 +37,7 @@ stateAt p s hs n = published p (systemAfter p s (take n hs))
 
 module _ (p : Plan) where
   steps : (s : System) → Grounded p s → (hs : List Happening) → AllGenuine p s hs → (n : ℕ)
-      → PCStep (isRM p) (isAcceptor p) (isMajoritySet p) (stateAt p s hs n) (stateAt p s hs (suc n))
+      → WidenedStep (isRM p) (isAcceptor p) (isMajoritySet p) (stateAt p s hs n) (stateAt p s hs (suc n))
   steps s g [] ok zero = inr (refl, refl, λ x. (λ h. h, λ h. h))
   steps s g [] ok (suc n) = inr (refl, refl, λ x. (λ h. h, λ h. h))
   steps s g (h ∷ hs) (ok, rest) zero = one-claim p s g h ok .0
@@ -43,10 +46,13 @@ module _ (p : Plan) where
 module _ (p : Plan) (s : System) (fresh : Fresh s) (hs : List Happening) (ok : AllGenuine p s hs) where
   pub hosts-published : (h : Happening) → Genuine p (systemAfter p s hs) h
       → PCStep (isRM p) (isAcceptor p) (isMajoritySet p) (published p (systemAfter p s hs)) (published p (made p (systemAfter p s hs) h .system))
-  hosts-published h genuine = one-claim p (systemAfter p s hs) (grounded-after p s (grounded-fresh p s fresh) hs ok) h genuine .0
+      ⊎ EarlyAbort (isRM p) (isAcceptor p) (isMajoritySet p) (published p (systemAfter p s hs)) (published p (made p (systemAfter p s hs) h .system))
+  hosts-published h genuine =
+      ⊎-elim (λ next. ⊎-elim (λ printed. inl (inl printed)) inr (widened-next (isRM p) (isAcceptor p) (isMajoritySet p) _ _ .0 next)) (λ same. inl (inr same))
+      (one-claim p (systemAfter p s hs) (grounded-after p s (grounded-fresh p s fresh) hs ok) h genuine .0)
 
-  pub hosts-behaviour : PCSpec (isRM p) (isAcceptor p) (isMajoritySet p) (stateAt p s hs)
+  pub hosts-behaviour : WidenedSpec (isRM p) (isAcceptor p) (isMajoritySet p) (stateAt p s hs)
   hosts-behaviour = (initial p s fresh, steps p s (grounded-fresh p s fresh) hs ok)
 
   pub hosts-commits : TCSpec (isRM p) (λ n. row (systemAfter p s (take n hs)))
-  hosts-commits = paxos-commit-implements (isRM p) (isAcceptor p) (isMajoritySet p) (majorities-meet p .1) (stateAt p s hs) hosts-behaviour
+  hosts-commits = widened-paxos-commit-implements (isRM p) (isAcceptor p) (isMajoritySet p) (majorities-meet p .1) (stateAt p s hs) hosts-behaviour

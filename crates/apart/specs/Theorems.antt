@@ -12,14 +12,15 @@
 --                             its N; a leader with zeros after its inbox
 --     lost-summary, older-summary     a leader may go on with a summary of zeros, and with the one that a call found
 --     hosts-agree, leaders-agree      no instance chooses two values, by what was sent or by what two leaders have received
---     summaries-decided       whatever stands in a leader's summary is decided by what it has received
+--     summaries-decided       whatever stands in a leader's summary is decided by what it has received, or the weight has declined there
+--     hosts-declined          where a weight declines, its instance chooses nothing but aborted, and Commit is not sent
 --     hosts-one-decision      Commit and Abort are never both sent
 --     hosts-chosen-2a, -2b    what a majority has voted for at a ballot is what every 2a and 2b there and at later ballots carries, ever after
 --     deliver-answers, deliver-keeps, deliver-sends     a delivery answers the lowest number that applies; a refused one changes no byte of N; an accepted one
 --                             has put the message that the bytes are into N, and answers the first slot where it stands
 --     other-order-bytes, other-order-stands     row 18 applies to another order's message, and row 5 where it stands in N
 --     orders-apart-delivery   so neither is accepted
--- In document 01's numbers: Words.antt. As behaviours of module PaxosCommit: Behaviour.antt. Assumes nothing.
+-- In document 01's numbers: Words.antt. As behaviours of module PaxosCommit, Decide widened: Behaviour.antt. Assumes nothing.
 use Prim.Native.Nat.{ℕ, _%_, _≤_}
 use mathlib.Core.Bool.{Bool, true, false, false≢true}
 use mathlib.Core.List.{List, [], _∷_, _++_, List·Memᴰ, List·Memᴰ·head, List·Memᴰ·tail, List·Memᴰ·not-nil}
@@ -43,10 +44,12 @@ use Rattle.change.specs.declared.Sent.{Sent}
 use Rattle.event.specs.Event.{isEvent}
 use Rattle.tcommit.specs.RmState.{committed, aborted}
 use Rattle.paxos_commit.specs.PaxosCommit.{Val, Message, phase2a, phase2b, Commit, Abort, Decided}
+use Rattle.paxos_commit.specs.PaxosCommit as Source
 use Rattle.paxos_commit.specs.PaxosCommit.Laws.{decided-kept}
-use Rattle.paxos_commit.specs.PaxosCommit.Safety.Agreement.{consistent, chosen-2a, chosen-2b, one-chosen, never-both}
+use Rattle.paxos_commit.specs.Words.{announced-words}
+use Rattle.paxos_commit.specs.PaxosCommit.Safety.Agreement.{consistent, chosen-2a, chosen-2b, one-chosen, declined-chooses, declined-ends, never-both}
 use Rattle.leader.specs.Leader.{stands}
-use Rattle.matching.specs.Reading.{isRM, isAcceptor, isMajoritySet, valOf, setOf}
+use Rattle.matching.specs.Reading.{isRM, isAcceptor, isMajoritySet, setOf}
 use Rattle.matching.specs.Call.{Accepted, Sends}
 use Rattle.matching.specs.Theorems.{majorities-meet}
 use Rattle.safety.specs.Grounds.Zeros.{messages-zeros}
@@ -156,9 +159,22 @@ module _ (p : Plan) where
           heard l = decided-kept (isRM p) (isAcceptor p) (isMajoritySet p) _ _ (g .tied .inboxes l)
 
       -- 1 is prepared, 2 aborted
-      pub summaries-decided : (l i v : ℕ) → (v ≡ 1) ⊎ (v ≡ 2) → stands (end .hosts leader l .summary) i v ≡ true
-          → Decided (isRM p) (isAcceptor p) (isMajoritySet p) (setOf (messages p (end .hosts leader l .table))) i (valOf v)
-      summaries-decided = g .tied .standing
+      pub summaries-decided : (l i : ℕ)
+          → (stands (end .hosts leader l .summary) i 1 ≡ true
+          → Decided (isRM p) (isAcceptor p) (isMajoritySet p) (setOf (messages p (end .hosts leader l .table))) i Source.prepared)
+          × (stands (end .hosts leader l .summary) i 2 ≡ true
+          → Decided (isRM p) (isAcceptor p) (isMajoritySet p) (setOf (messages p (end .hosts leader l .table))) i Source.aborted
+          ⊎ setOf (messages p (end .hosts leader l .table)) (phase2a i 0 Source.aborted))
+      summaries-decided l i =
+          let (one, two) = announced-words (isRM p) (isAcceptor p) (isMajoritySet p) (setOf (messages p (end .hosts leader l .table))) i in
+          (λ is. one .0 (g .tied .standing l i 1 (inl refl) is), λ is. two .0 (g .tied .standing l i 2 (inr refl) is))
+
+      -- a weight that has proposed aborted at ballot 0 ends the order: its instance chooses nothing else, and Commit is not sent
+      pub hosts-declined : (i : ℕ) → isRM p i → setOf (end .wire) (phase2a i 0 Source.aborted)
+          → (setOf (end .wire) Commit → ⊥)
+          × ((v : Val) → Decided (isRM p) (isAcceptor p) (isMajoritySet p) (setOf (end .wire)) i v → v ≡ Source.aborted)
+      hosts-declined i q h =
+          (declined-ends (g .inv) (majorities-meet p .1) i q h, λ v. declined-chooses (g .inv) (majorities-meet p .1) i v h)
 
       pub hosts-one-decision : setOf (end .wire) Commit → setOf (end .wire) Abort → ⊥
       hosts-one-decision = never-both (g .inv) (majorities-meet p .1)

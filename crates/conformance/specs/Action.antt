@@ -51,8 +51,8 @@ pub record Action (p : Plan) (t : Tables) (e : List ℕ) (s s′ : State) : Type
   pub kind-7 : kindOf e ≡ 7 → CommitBy p (OwnStands p t e) s s′
   pub kind-8 : kindOf e ≡ 8 → AbortBy p (OwnStands p t e) s s′
 
--- a receipt: the leader's inbox gains the 1b or 2b in the event's slot, unless it is there; of a 2b for (i, v) its byte i of the summary gains v's
--- bit where Decided(i, v) holds in the inbox then; and no other byte changes
+-- a receipt: the leader's inbox gains the 1b, 2b or 2a at ballot 0 in the event's slot, unless it is there; its byte i of the summary gains v's bit of a
+-- 2b for (i, v) where Decided(i, v) holds in the inbox then, and aborted's of the 2a for (i, 0, aborted); and no other byte changes
 abbrev pub Copies : Plan → Tables → List ℕ → Tables → Type 0
 Copies p t e t′ =
     (m : Wire.Message) × InSlot p (t .network) e m

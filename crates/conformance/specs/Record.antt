@@ -192,7 +192,7 @@ SoundOthers p t l =
     × (length (t .summary) ≡ p .rms * p .leaders)
     × ((k : ℕ) → k < p .leaders → (k ≡ l → ⊥) → isSummary (p .rms) (summaryOf p t k) ≡ true)
 
--- the tables after the event's leader received m: its inbox, and its bytes of the summary marked by what is Decided there
+-- the tables after the event's leader received m: its inbox, and its bytes of the summary marked
 abbrev pub heard : Plan → Tables → List ℕ → Wire.Message → List ℕ → Tables
 heard p t e m inbox =
     withSummary (withInboxes t (withInbox p (t .inboxes) (whoOf e) inbox))

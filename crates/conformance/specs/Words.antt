@@ -15,19 +15,22 @@
 --     sound-words                   the tables that a role's own call is not lent are as rows 2, 3, 4, 6 and 20 ask
 --     lowest-words, order-words, first-words     what `Lowest` and `InOrder` say of an answer; what the first row that applies is
 --     summary-words, stands-words, summary-place       row 20; the bits of a byte of the summary; where a leader's bytes lie
+--     received-words                the messages that a leader takes; decision-words, taken-words: a weight, an acceptor
+--     decline-words                 the 2a by which a weight declines
 --     marked-words, standing-words     what receiving a message does to the bits; the byte that an inbox says, in numbers
 --     tables-mean, replaced-mean, open-means, step-means, role-means, read-means     what the records and enums in the contracts stand for: nothing but their parts
 -- Assumes nothing.
 use Prim.Native.Nat.{ℕ, suc, _+_, _-_, _*_, _/_, _%_, _≤_, _<_}
-use mathlib.Core.Bool.{Bool, true, false, _&&_, _||_}
+use mathlib.Core.Bool.{Bool, true, false, _&&_, _||_, and-true}
 use mathlib.Core.List.{List, [], _∷_, _++_}
 use mathlib.Core.Logic.{_⊎_, _↔_}
-use mathlib.Core.Path.{_≡_, refl}
+use mathlib.Core.Path.{_≡_, refl, _∙_, ap}
 use lib.Dec.{eqb}
 use lib.ListN.{length, getD}
 use Rattle.message.specs.declared.Plan.{Plan}
 use Rattle.message.specs.declared.Message.{Message}
 use Rattle.message.specs.declared.Message.the-variants.{Phase1a, Phase1b, Phase2a, Phase2b, Decision}
+use Rattle.message.specs.declared.Vote.{Vote}
 use Rattle.message.specs.declared.Vote.the-variants.{None, Cast}
 use Rattle.message.specs.declared.Read.the-variants as Reads
 use Rattle.message.specs.Outcome.{Outcome, accepted, refused}
@@ -45,9 +48,10 @@ use Rattle.quorum.specs.Quorum.{isQuorum, Distinct, AmongFirst}
 use Rattle.rm.specs.Rm.{areStates}
 use Rattle.votes.specs.Votes.{areVotes}
 use Rattle.acceptor.specs.Acceptor.{voteAt}
-use Rattle.inbox.specs.Inbox.{decided}
-use Rattle.summary.specs.Summary.{marked, standing}
-use Rattle.summary.specs.Summary.Laws.{summary-length, summary-bytes, is-summary, stands-prepared, stands-aborted, marked-bit, marked-none}
+use Rattle.inbox.specs.Inbox.{any, decided}
+use Rattle.summary.specs.Summary.{isDecline, marked, standing}
+use Rattle.summary.specs.Summary.Laws.{summary-length, summary-bytes, is-summary, stands-prepared, stands-aborted, decline-is, is-decline}
+use Rattle.summary.specs.Summary.Laws.{marked-bit, marked-decline, marked-no-decline, marked-none, announced-prepared, announced-aborted}
 use Rattle.summary.specs.Summary.Laws.{standing-0, standing-1, standing-2, standing-3}
 use Rattle.leader.specs.Leader.{owns, isSummary, stands}
 use Rattle.phase2a.specs.Phase2a.Laws.{owns-rule, owns-turns}
@@ -56,6 +60,9 @@ use Rattle.record.specs.Record.{openingOf, recordStepOf}
 use Rattle.record.specs.Record.Parts as Parts
 use Rattle.record.specs.Record.Summary.{summary-byte}
 use Rattle.matching.specs.Call.{HeldBy}
+use Rattle.matching.specs.Rm.{isDecision}
+use Rattle.matching.specs.Acceptor.{isTaken}
+use Rattle.matching.specs.Leader.{isReceived}
 use Rattle.conformance.specs.Record.{EventForm, inboxesUpTo, SoundStates, SoundVotes, SoundInboxes, SoundSummary, SoundOthers}
 use Rattle.conformance.specs.Record.Words as Laws
 
@@ -209,20 +216,54 @@ summary-words count s = (
 pub stands-words : (s : List ℕ) (i : ℕ) → (stands s i 1 ≡ eqb (getD s i 0 % 2) 1) × (stands s i 2 ≡ eqb (getD s i 0 / 2 % 2) 1)
 stands-words s i = (stands-prepared s i, stands-aborted s i)
 
--- a 2b of (i, v) sets the bit of v in byte i where `isDecided i v`, and no other; another message sets none
+-- row 9 of kind 4: a 1b, a 2b, or a 2a at ballot 0 (document 02, Paper 6)
+pub received-words : (m : Message)
+    → (isReceived m ≡ true)
+    ↔ (((i a b : ℕ) × (vote : Vote) × (m ≡ Phase1b i a b vote))
+    ⊎ (((i a b v : ℕ) × (m ≡ Phase2b i a b v)) ⊎ ((i v : ℕ) × (m ≡ Phase2a i 0 v))))
+received-words = Laws.received-words
+
+-- row 9 of kinds 2 and 3: a decision; a 1a or a 2a
+pub decision-words : (m : Message) → (isDecision m ≡ true) ↔ ((v : ℕ) × (m ≡ Decision v))
+decision-words = Laws.decision-words
+
+pub taken-words : (m : Message) → (isTaken m ≡ true) ↔ (((i b : ℕ) × (m ≡ Phase1a i b)) ⊎ ((i b v : ℕ) × (m ≡ Phase2a i b v)))
+taken-words = Laws.taken-words
+
+-- document 02, Paper 6: aborted at ballot 0, and nothing else
+pub decline-words : (i : ℕ) (m : Message) → (isDecline i m ≡ true) ↔ (m ≡ Phase2a i 0 2)
+decline-words i m = (decline-is i m, λ is. ap (isDecline i) is ∙ is-decline i)
+
+-- a 2b of (i, v) sets the bit of v in byte i where `isDecided i v`, a 2a of (i, 0, aborted) that of aborted in byte i, and no other; another message sets
+-- none
 pub marked-words : (isDecided : ℕ → ℕ → Bool) (s : List ℕ)
     → ((i a b v j w : ℕ) → i < length s → (v ≡ 1) ⊎ (v ≡ 2) → (w ≡ 1) ⊎ (w ≡ 2)
     → stands (marked isDecided s (Phase2b i a b v)) j w ≡ (stands s j w || (eqb i j && (eqb v w && isDecided i v))))
-    × ((m : Message) → ((i a b v : ℕ) → m ≡ Phase2b i a b v → ⊥) → marked isDecided s m ≡ s)
-marked-words isDecided s = (λ i a b v j w. marked-bit isDecided s j w i a b v, marked-none isDecided s)
+    × ((i j w : ℕ) → i < length s → (w ≡ 1) ⊎ (w ≡ 2) → stands (marked isDecided s (Phase2a i 0 2)) j w ≡ (stands s j w || (eqb i j && eqb 2 w)))
+    × ((i b v : ℕ) → ((b ≡ 0) × (v ≡ 2) → ⊥) → marked isDecided s (Phase2a i b v) ≡ s)
+    × ((m : Message) → ((i b v : ℕ) → m ≡ Phase2a i b v → ⊥) → ((i a b v : ℕ) → m ≡ Phase2b i a b v → ⊥) → marked isDecided s m ≡ s)
+marked-words isDecided s = (
+  λ i a b v j w. marked-bit isDecided s j w i a b v,
+  (λ i j w below word.
+      marked-decline isDecided s j w i 0 2 below word ∙ ap (λ (t : Bool). stands s j w || (eqb i j && t)) (and-true (eqb 2 w))),
+  marked-no-decline isDecided s,
+  marked-none isDecided s,
+)
 
--- 1 for prepared and 2 for aborted
+-- 1 for prepared and 2 for aborted, which is decided, or declined by the weight's 2a
 pub standing-words : (p : Plan) (seen : List Message) (i : ℕ)
-    → (decided p seen i 1 ≡ false → decided p seen i 2 ≡ false → standing p seen i ≡ 0)
-    × (decided p seen i 1 ≡ true → decided p seen i 2 ≡ false → standing p seen i ≡ 1)
-    × (decided p seen i 1 ≡ false → decided p seen i 2 ≡ true → standing p seen i ≡ 2)
-    × (decided p seen i 1 ≡ true → decided p seen i 2 ≡ true → standing p seen i ≡ 3)
-standing-words p seen i = (standing-0 p seen i, standing-1 p seen i, standing-2 p seen i, standing-3 p seen i)
+    → (decided p seen i 1 ≡ false → (decided p seen i 2 || any (isDecline i) seen) ≡ false → standing p seen i ≡ 0)
+    × (decided p seen i 1 ≡ true → (decided p seen i 2 || any (isDecline i) seen) ≡ false → standing p seen i ≡ 1)
+    × (decided p seen i 1 ≡ false → (decided p seen i 2 || any (isDecline i) seen) ≡ true → standing p seen i ≡ 2)
+    × (decided p seen i 1 ≡ true → (decided p seen i 2 || any (isDecline i) seen) ≡ true → standing p seen i ≡ 3)
+standing-words p seen i =
+    let one = announced-prepared p seen i in
+    let two = announced-aborted p seen i in (
+      λ a b. standing-0 p seen i (one ∙ a) (two ∙ b),
+      λ a b. standing-1 p seen i (one ∙ a) (two ∙ b),
+      λ a b. standing-2 p seen i (one ∙ a) (two ∙ b),
+      λ a b. standing-3 p seen i (one ∙ a) (two ∙ b),
+    )
 
 -- leader l's byte of instance i is byte l × n + i
 pub summary-place : (p : Plan) (t : Tables) → isPlan p ≡ true → length (t .summary) ≡ p .rms * p .leaders

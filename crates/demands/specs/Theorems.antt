@@ -4,7 +4,7 @@
 --                           the documents' order; no byte changes
 --     demand-2, -acts, -sets, -copies, -published      accepted exactly where the published action is enabled and no other row applies; what is then set
 --     demand-3, -words, -list     over every list of event calls and list calls from a fresh record
---     summary-true, -decided      after such a list the summary says what the inboxes say
+--     summary-true, -decided      after such a list the summary says what the inboxes say: what is Decided, and which weights have declined
 --     same-answers, same-runs     and all answers are those of the calls without a summary
 --     list-counts, list-claims     a list call counts as its single calls in order, and as none where it is refused; its answers and tables are theirs
 --     byte-form, -written   a slice is read as a message exactly where it is the one form of that message
@@ -28,12 +28,13 @@ use Rattle.message.specs.Theorems.{answer, form, readerRows, writerRows, reader
 use Rattle.slots.specs.Table.{slots, messages}
 use Rattle.summary.specs.Summary.{standing}
 use Rattle.event.specs.Event.{kindOf}
-use Rattle.paxos_commit.specs.PaxosCommit.{State, initial, PCStep}
+use Rattle.paxos_commit.specs.PaxosCommit.{State, prepared, aborted, phase2a, initial, PCStep}
+use Rattle.paxos_commit.specs.Widened.{WidenedStep}
 use Rattle.rm.specs.Rm.{rmStep}
 use Rattle.acceptor.specs.Acceptor.{acceptorStep}
 use Rattle.leader.specs.Leader.{stands, leaderStep}
 use Rattle.record.specs.Record.{Tables, withSummary, inboxOf, RecordStep, recordStep, recordOpen}
-use Rattle.matching.specs.Reading.{isRM, isAcceptor, isMajoritySet, valOf, setOf}
+use Rattle.matching.specs.Reading.{isRM, isAcceptor, isMajoritySet, setOf}
 use Rattle.matching.specs.Call.{Accepted, Enabled}
 use Rattle.matching.specs.Rm.{rmRows}
 use Rattle.matching.specs.Acceptor.{acceptorRows}
@@ -153,18 +154,22 @@ module _ (p : Plan) (t : Tables) (fresh : Fresh t) (calls : List Call) where
   pub demand-3-words : AfterEach p (SafeInWords p) t calls
   demand-3-words = Words.demand-3-words p t fresh calls
 
-  -- document 02, Paper 5: byte l × n + i of the summary is what leader l's inbox says of instance i: 1 where prepared is Decided, 2 where aborted is
+  -- document 02, Paper 5: byte l × n + i of the summary is what leader l's inbox says of instance i: 1 where prepared is Decided, 2 where aborted is;
+  -- and by Paper 6 the 2 stands too where the inbox has the 2a by which weight i declines
   pub summary-true : (l i : ℕ) → l < p .leaders → i < p .rms
       → getD (tablesAfter p t calls .summary) (l * p .rms + i) 0 ≡ standing p (messages p (inboxOf p (tablesAfter p t calls .inboxes) l)) i
   summary-true l i = Standing.summary-true p t fresh calls l i
 
-  -- and a bit stands exactly where the source's Decided holds by the messages of that inbox
-  pub summary-decided : (l i v : ℕ) → l < p .leaders → i < p .rms → (v ≡ 1) ⊎ (v ≡ 2)
-      → (stands (tablesAfter p t calls .summary) (l * p .rms + i) v ≡ true)
-      ↔ DecidedIn p (setOf (messages p (inboxOf p (tablesAfter p t calls .inboxes) l))) i (valOf v)
+  -- and a bit stands exactly where the source's Decided holds by the messages of that inbox, for aborted also where that 2a is there
+  pub summary-decided : (l i : ℕ) → l < p .leaders → i < p .rms
+      → ((stands (tablesAfter p t calls .summary) (l * p .rms + i) 1 ≡ true)
+      ↔ DecidedIn p (setOf (messages p (inboxOf p (tablesAfter p t calls .inboxes) l))) i prepared)
+      × ((stands (tablesAfter p t calls .summary) (l * p .rms + i) 2 ≡ true)
+      ↔ (DecidedIn p (setOf (messages p (inboxOf p (tablesAfter p t calls .inboxes) l))) i aborted
+      ⊎ setOf (messages p (inboxOf p (tablesAfter p t calls .inboxes) l)) (phase2a i 0 aborted)))
   summary-decided = Standing.summary-decided p t fresh calls
 
-  -- the calls without a summary are those of document 01, with Decided read from the inbox; they neither read nor change one
+  -- the calls without a summary are those of document 01, with Decided, and for kind 8 that 2a too, read from the inbox; they neither read nor change one
   pub same-answers : length (t .summary) ≡ p .rms * p .leaders
       → (answers p t calls ≡ plainAnswers p t calls) × (withSummary (tablesAfter p t calls) (t .summary) ≡ plainAfter p t calls)
   same-answers whole = let same = Standing.same-answers p t fresh calls whole in (same .0, sym (same .1))
@@ -180,10 +185,12 @@ module _ (p : Plan) (t : Tables) (fresh : Fresh t) (calls : List Call) where
       → List·Memᴰ 11 (recordRun p (tablesAfter p t calls) events given .answers) → ⊥
   demand-3-list = Safety.list-never-11 p t fresh calls
 
-  -- and after such a list what an accepted event's action sets is a step of the published module, with every condition read from N
+  -- and after such a list what an accepted event's action sets is a step of the published module, with every condition read from N; for kind 8 Decide is
+  -- widened by a weight's own 2a for aborted (document 001, section 4.2)
   pub demand-2-published : (e : List ℕ) → Accepted (recordStep p (tablesAfter p t calls) e .answer)
       → (s′ : State) → Action p (tablesAfter p t calls) e (recordState p (tablesAfter p t calls)) s′
-      → PCStep (isRM p) (isAcceptor p) (isMajoritySet p) (recordState p (tablesAfter p t calls)) s′
+      → WidenedStep (isRM p) (isAcceptor p) (isMajoritySet p) (recordState p (tablesAfter p t calls)) s′
+      × ((kindOf e ≡ 8 → ⊥) → PCStep (isRM p) (isAcceptor p) (isMajoritySet p) (recordState p (tablesAfter p t calls)) s′)
   demand-2-published = action-published p t fresh calls
 
 -- document 02, Paper 2: what such a list has of a list call, on any tables. The answers are the single calls' numbers, 0 or the refusal

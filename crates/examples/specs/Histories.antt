@@ -3,12 +3,15 @@
 --     order, fresh          the plan and the fresh record
 --     committing, aborting, declining; committing-list, mixing     the lists of calls; the first as one list; lists among event calls
 --     spread, heard         three weights, three acceptors and two leaders; two weights, one acceptor and two leaders
+--     pair, pairFresh, declined     two weights, three acceptors and one leader: a weight declines, and the order is aborted though no acceptor has voted
+--     received              the summary after one receipt on tables given byte by byte
 --     on, onSummary, unused, atBallot     the answer of one event call on tables given byte by byte
 --     Computed, computed    what all of these come to, in numbers and bytes: each field is a theorem
 --         orders-end            what the lists of calls answer, and W and the summary afterwards
 --         lists-end, mixed-ends     the same of lists, and of those that are refused whole
 --         places                where each call puts its bytes in the five tables
 --         summaries             which byte of the summary a receipt sets, and kinds 7 and 8, which read it alone
+--         declines              an order that is aborted early, and which 2a messages a leader takes and marks (document 02, Paper 6)
 --         order-examples        an old map, a bad field of another order, other orders by either byte, and a Commit of this order and of another
 --         owners                who owns which ballots, with two, three and four leaders
 --         refusals              each number of the event call
@@ -95,6 +98,30 @@ spread = event (5 ∷ 1 ∷ 2 ∷ 2 ∷ []) ∷ event (3 ∷ 1 ∷ 0 ∷ 0 ∷ [
 abbrev pub heard : List Call
 heard = event (0 ∷ 1 ∷ 0 ∷ 0 ∷ []) ∷ event (3 ∷ 0 ∷ 0 ∷ 0 ∷ []) ∷ event (4 ∷ 1 ∷ 0 ∷ 1 ∷ []) ∷ event (7 ∷ 1 ∷ 0 ∷ 0 ∷ []) ∷ []
 
+-- two weights, three acceptors, one leader
+abbrev pub pair : Plan
+pair = record { rms = 2; acceptors = 3; leaders = 1; order = 0x0102 }
+
+abbrev pub pairFresh : Tables
+pairFresh = tablesOf (replicate 2 0) (replicate 18 0) (replicate 24 0) (replicate 24 0) (replicate 2 0)
+
+-- weight 0 prepares, the leader hears of it, and can't abort; weight 1 declines, the leader hears its 2a, and aborts; both take the decision
+abbrev pub declined : List Call
+declined =
+    call 0 0 0
+    ∷ call 4 0 0
+    ∷ call 8 0 0
+    ∷ event (1 ∷ 1 ∷ 0 ∷ 0 ∷ [])
+    ∷ call 4 0 1
+    ∷ call 8 0 0
+    ∷ call 2 0 2
+    ∷ event (2 ∷ 1 ∷ 0 ∷ 2 ∷ [])
+    ∷ []
+
+-- the leader of that plan takes what N has in its one slot, beside an inbox of two slots and on a summary: the summary afterwards
+abbrev pub received : List ℕ → List ℕ → List ℕ → List ℕ
+received n i s = recordStep pair (tablesOf (replicate 2 0) (replicate 18 0) n i s) (4 ∷ 0 ∷ 0 ∷ 0 ∷ []) .tables .summary
+
 -- an event call on a record of one weight, one acceptor and one leader, with a zero summary: its answer
 abbrev pub on : List ℕ → List ℕ → List ℕ → List ℕ → List ℕ → Outcome Sent
 on w q n i e = recordStep order (tablesOf w q n i (0 ∷ [])) e .answer
@@ -166,6 +193,25 @@ pub record Computed : Type 0 where
       × (onSummary unused (1 ∷ []) (7 ∷ 0 ∷ 0 ∷ 0 ∷ []) ≡ accepted (Slot 0))
       × (onSummary unused (2 ∷ []) (8 ∷ 0 ∷ 0 ∷ 0 ∷ []) ≡ accepted (Slot 0))
       × (onSummary (0x3B ∷ 0 ∷ 0 ∷ 0 ∷ 1 ∷ 1 ∷ 2 ∷ 0 ∷ []) (2 ∷ []) (7 ∷ 0 ∷ 0 ∷ 0 ∷ []) ≡ refused 12)
+  -- Q stays zeros. Of 2a messages aborted at ballot 0 sets bit 1 of its weight, prepared and a later ballot set none; a vote for aborted without a
+  -- majority sets none beside that 2a; the 2a sets its bit where it is in the inbox already, and none where it has no room; 9 comes before 14
+  pub declines :
+      (answers pair pairFresh declined
+      ≡ accepted (Slot 0) ∷ accepted Quiet ∷ refused 12 ∷ accepted (Slot 1) ∷ accepted Quiet ∷ accepted (Slot 2) ∷ accepted Quiet ∷ accepted Quiet ∷ [])
+      × (tablesAfter pair pairFresh declined .states ≡ 3 ∷ 3 ∷ [])
+      × (tablesAfter pair pairFresh declined .votes ≡ replicate 18 0)
+      × (tablesAfter pair pairFresh declined .summary ≡ 0 ∷ 2 ∷ [])
+      × (received (0x39 ∷ 1 ∷ 0 ∷ 2 ∷ 1 ∷ 2 ∷ 0 ∷ 0 ∷ []) (replicate 16 0) (1 ∷ 1 ∷ []) ≡ 1 ∷ 3 ∷ [])
+      × (received (0x39 ∷ 1 ∷ 0 ∷ 1 ∷ 1 ∷ 2 ∷ 0 ∷ 0 ∷ []) (replicate 16 0) (0 ∷ 0 ∷ []) ≡ 0 ∷ 0 ∷ [])
+      × (received (0x39 ∷ 1 ∷ 1 ∷ 2 ∷ 1 ∷ 2 ∷ 0 ∷ 0 ∷ []) (replicate 16 0) (0 ∷ 0 ∷ []) ≡ 0 ∷ 0 ∷ [])
+      × (received (0x3B ∷ 1 ∷ 0 ∷ 0 ∷ 2 ∷ 1 ∷ 2 ∷ 0 ∷ []) ((0x39 ∷ 1 ∷ 0 ∷ 2 ∷ 1 ∷ 2 ∷ 0 ∷ 0 ∷ []) ++ unused) (0 ∷ 0 ∷ []) ≡ 0 ∷ 0 ∷ [])
+      × (received (0x39 ∷ 0 ∷ 0 ∷ 2 ∷ 1 ∷ 2 ∷ 0 ∷ 0 ∷ []) (0x39 ∷ 0 ∷ 0 ∷ 2 ∷ 1 ∷ 2 ∷ 0 ∷ 0 ∷ []) (0 ∷ 1 ∷ []) ≡ 2 ∷ 1 ∷ [])
+      × (received (0x39 ∷ 0 ∷ 0 ∷ 2 ∷ 1 ∷ 2 ∷ 0 ∷ 0 ∷ []) (0x39 ∷ 1 ∷ 0 ∷ 2 ∷ 1 ∷ 2 ∷ 0 ∷ 0 ∷ []) (0 ∷ 0 ∷ []) ≡ 0 ∷ 0 ∷ [])
+      × (on (0 ∷ []) (0 ∷ 0 ∷ 0 ∷ []) (0x39 ∷ 0 ∷ 0 ∷ 1 ∷ 1 ∷ 2 ∷ 0 ∷ 0 ∷ []) unused (4 ∷ 0 ∷ 0 ∷ 0 ∷ []) ≡ accepted Quiet)
+      × (on (0 ∷ []) (0 ∷ 0 ∷ 0 ∷ []) (0x39 ∷ 0 ∷ 0 ∷ 2 ∷ 1 ∷ 2 ∷ 0 ∷ 0 ∷ []) unused (4 ∷ 0 ∷ 0 ∷ 0 ∷ []) ≡ accepted Quiet)
+      × (on (0 ∷ []) (0 ∷ 0 ∷ 0 ∷ []) (0x39 ∷ 0 ∷ 1 ∷ 2 ∷ 1 ∷ 2 ∷ 0 ∷ 0 ∷ []) unused (4 ∷ 0 ∷ 0 ∷ 0 ∷ []) ≡ refused 9)
+      × (on (0 ∷ []) (0 ∷ 0 ∷ 0 ∷ []) (0x39 ∷ 0 ∷ 2 ∷ 2 ∷ 1 ∷ 2 ∷ 0 ∷ 0 ∷ []) unused (4 ∷ 0 ∷ 0 ∷ 0 ∷ []) ≡ refused 9)
+      × (on (0 ∷ []) (0 ∷ 0 ∷ 0 ∷ []) (0x39 ∷ 0 ∷ 1 ∷ 2 ∷ 1 ∷ 2 ∷ 0 ∷ 0 ∷ []) (0x27 ∷ 0 ∷ 0 ∷ 2 ∷ 1 ∷ 2 ∷ 0 ∷ 0 ∷ []) (4 ∷ 0 ∷ 0 ∷ 0 ∷ []) ≡ refused 9)
   -- the order number is 0102 (document 02, Paper 1)
   pub order-examples : map (readMessage order)
       ((0x19 ∷ 0 ∷ 0 ∷ 1 ∷ [])
@@ -205,7 +251,7 @@ pub record Computed : Type 0 where
       × (on (0 ∷ []) (0 ∷ 0 ∷ 0 ∷ []) unused unused (2 ∷ 0 ∷ 0 ∷ 0 ∷ []) ≡ refused 8)
       × (on (0 ∷ []) (0 ∷ 0 ∷ 0 ∷ []) (0x29 ∷ 0 ∷ 1 ∷ 1 ∷ 2 ∷ 0 ∷ 0 ∷ 0 ∷ []) unused (2 ∷ 0 ∷ 0 ∷ 0 ∷ []) ≡ refused 9)
       × (on (0 ∷ []) (0 ∷ 0 ∷ 0 ∷ []) (0x30 ∷ 1 ∷ 1 ∷ 2 ∷ 0 ∷ 0 ∷ 0 ∷ 0 ∷ []) unused (3 ∷ 0 ∷ 0 ∷ 0 ∷ []) ≡ refused 9)
-      × (on (0 ∷ []) (0 ∷ 0 ∷ 0 ∷ []) (0x39 ∷ 0 ∷ 0 ∷ 1 ∷ 1 ∷ 2 ∷ 0 ∷ 0 ∷ []) unused (4 ∷ 0 ∷ 0 ∷ 0 ∷ []) ≡ refused 9)
+      × (on (0 ∷ []) (0 ∷ 0 ∷ 0 ∷ []) (0x39 ∷ 0 ∷ 1 ∷ 1 ∷ 1 ∷ 2 ∷ 0 ∷ 0 ∷ []) unused (4 ∷ 0 ∷ 0 ∷ 0 ∷ []) ≡ refused 9)
       × (on (0 ∷ []) (0 ∷ 0 ∷ 0 ∷ []) unused unused (5 ∷ 0 ∷ 0 ∷ 0 ∷ []) ≡ refused 10)
       × (on (0 ∷ []) (0 ∷ 0 ∷ 0 ∷ []) (0x30 ∷ 1 ∷ 1 ∷ 2 ∷ 0 ∷ 0 ∷ 0 ∷ 0 ∷ []) unused (2 ∷ 0 ∷ 0 ∷ 0 ∷ []) ≡ refused 11)
       × (on (3 ∷ []) (0 ∷ 0 ∷ 0 ∷ []) (0x30 ∷ 1 ∷ 1 ∷ 2 ∷ 0 ∷ 0 ∷ 0 ∷ 0 ∷ []) unused (2 ∷ 0 ∷ 0 ∷ 0 ∷ []) ≡ refused 11)
@@ -231,6 +277,7 @@ computed =
       mixed-ends = (refl, refl);
       places = refl;
       summaries = (refl, refl, refl, refl, refl);
+      declines = (refl, refl, refl, refl, refl, refl, refl, refl, refl, refl, refl, refl, refl, refl, refl);
       order-examples = refl;
       owners = (refl, refl, refl, refl, refl, refl);
       refusals = (refl, refl, refl, refl, refl, refl, refl, refl, refl, refl, refl, refl, refl, refl, refl, refl, refl, refl, refl, refl, refl, refl, refl, refl, refl, refl, refl);

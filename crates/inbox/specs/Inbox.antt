@@ -9,6 +9,7 @@
 pub mod Slots
 pub mod Reports
 pub mod Votes
+pub mod Members
 pub mod Quantifiers
 pub mod Blocks
 use Prim.Native.Nat.{ℕ, zero, suc}

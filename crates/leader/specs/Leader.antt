@@ -1,5 +1,5 @@
--- The step of a leader, kinds 4 to 8 (document 01, "The nine events" and "Refusals by place"; document 02, Paper 5). Kind 6 reads its conditions from
--- the messages in the leader's own inbox (the crate inbox), kinds 7 and 8 from its bytes of the summary (the crate summary, whose isSummary and
+-- The step of a leader, kinds 4 to 8 (document 01, "The nine events" and "Refusals by place"; document 02, Papers 5 and 6). Kind 6 reads
+-- its conditions from the messages in the leader's own inbox (the crate inbox), kinds 7 and 8 from its bytes of the summary (the crate summary, whose isSummary and
 -- stands have their names here too). Ownership of ballots and kind 6 are the crate `phase2a`, whose definitions (owns, phase2aMessage, keepOwn,
 -- sendBoth, phase2a) have their names here too.
 --     leaderJudged                  rows 1, 2, 5 and 6: the plan and both tables
@@ -54,11 +54,11 @@ unfoldable pub receiptStore : View → Message → Outcome Change
 receiptStore box m =
     sending 14 (box .send m) (λ slot store. accepted (record { table = Inbox store; network = Keep; sent = Quiet }))
 
--- row 9
+-- row 9: a 1b and a 2b are taken, and of the 2a messages those at ballot 0, which weights send (document 02, Paper 6)
 unfoldable pub receipt : View → Message → Outcome Change
 receipt box (Phase1a ins bal) = refused 9
 receipt box (Phase1b ins acc mbal vote) = receiptStore box (Phase1b ins acc mbal vote)
-receipt box (Phase2a ins bal val) = refused 9
+receipt box (Phase2a ins bal val) = refuseIf (not (eqb bal 0)) 9 (receiptStore box (Phase2a ins bal val))
 receipt box (Phase2b ins acc bal val) = receiptStore box (Phase2b ins acc bal val)
 receipt box (Decision val) = refused 9
 

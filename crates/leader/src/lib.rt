@@ -44,7 +44,7 @@ fn receipt_store(plan: Plan, inbox: &[u8], m: Message) -> Verdict
     }
 }
 
-// Kind 4: 9 where the message is neither a 1b nor a 2b.
+// Kind 4: 9 where the message is no 1b, no 2b and no 2a at ballot 0.
 fn receipt_of(plan: Plan, inbox: &[u8], m: Message) -> Verdict
     ensures { λ r. ⌜ verdictOutcome r ≡ receipt (viewBytes plan (now (inbox .entry))) m ⌝ }
 {
@@ -58,9 +58,14 @@ fn receipt_of(plan: Plan, inbox: &[u8], m: Message) -> Verdict
         } => receipt_store(plan, inbox, m),
         Message::Phase2a {
             ins: _,
-            bal: _,
+            bal,
             val: _,
-        } => Verdict::Refused(9),
+        } => {
+            if bal != 0 {
+                return Verdict::Refused(9);
+            }
+            receipt_store(plan, inbox, m)
+        }
         Message::Phase2b {
             ins: _,
             acc: _,

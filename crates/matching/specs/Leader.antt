@@ -1,7 +1,8 @@
 -- What the match of a leader's step speaks of. The theorems are in Theorems.antt, their proofs in Leader/Laws.antt.
 --     Phase1aAction, Phase2aAction     the actions at a plan's constants; `seen` is what Phase2a's conditions are read from
---     CommitBy, AbortBy, DecidedIn     Decide, by what counts as decided; what is decided by the messages of a set
---     CommitAction, AbortAction        Decide by the messages of a set
+--     CommitBy, AbortBy                Decide, by what counts as decided
+--     DecidedIn, DecidedOrDeclinedIn   what is decided by the messages of a set; and what Decide as widened takes for it (document 02, Paper 6)
+--     CommitAction, AbortAction        Decide widened, by the messages of a set
 --     stateOf                          the variables of module PaxosCommit: msgs as N holds them; a leader changes no other
 --     isReceived, proposed, Reports    the messages that a leader takes; the 2a that it proposes; the votes that 1b messages report
 --     NotOwned, DisabledBy, Full, InboxFull, WrongSummary     rows 10, 12, 13, 14 and 20
@@ -10,6 +11,7 @@
 -- Assumes nothing.
 pub mod Decided
 pub mod Conditions
+pub mod Declined
 pub mod Highest
 pub mod Guards
 pub mod Ruled
@@ -21,6 +23,7 @@ use mathlib.Core.Bool.{Bool, true, false}
 use mathlib.Core.List.{List, List·Memᴰ}
 use mathlib.Core.Logic.{_⊎_}
 use mathlib.Core.Path.{_≡_}
+use lib.Dec.{eqb}
 use lib.ListN.{length, getD}
 use Rattle.message.specs.declared.Plan.{Plan}
 use Rattle.message.specs.declared.Vote.the-variants.{Cast}
@@ -33,6 +36,7 @@ use Rattle.event.specs.Event.{kindOf, whoOf, highOf, lowOf, isEvent}
 use Rattle.inbox.specs.Inbox.{highestReport, proposal}
 use Rattle.paxos_commit.specs.PaxosCommit as Source
 use Rattle.paxos_commit.specs.PaxosCommit.{Val, Message, AState, State}
+use Rattle.paxos_commit.specs.Widened.{DecidedOrDeclined}
 use Rattle.leader.specs.Leader.{owns, stands}
 use Rattle.matching.specs.Reading.{isRM, isAcceptor, isMajoritySet, setOf}
 use Rattle.matching.specs.Call.{Enabled, HasRoom, SlotUnused, SlotHolds}
@@ -51,25 +55,29 @@ CommitBy p = Source.DecideCommitWhere (isRM p) (isAcceptor p) (isMajoritySet p)
 abbrev pub AbortBy : Plan → (ℕ → Val → Type 0) → State → State → Type 0
 AbortBy p = Source.DecideAbortWhere (isRM p) (isAcceptor p) (isMajoritySet p)
 
--- what the source calls decided, by the messages of a set; and Decide by that
+-- what the source calls decided, by the messages of a set
 abbrev pub DecidedIn : Plan → (Message → Type 0) → ℕ → Val → Type 0
 DecidedIn p = Source.Decided (isRM p) (isAcceptor p) (isMajoritySet p)
 
+-- that, and aborted also where the resource manager has proposed so at ballot 0 (document 001, section 4.2); and Decide by it
+abbrev pub DecidedOrDeclinedIn : Plan → (Message → Type 0) → ℕ → Val → Type 0
+DecidedOrDeclinedIn p = DecidedOrDeclined (isRM p) (isAcceptor p) (isMajoritySet p)
+
 abbrev pub CommitAction : Plan → (Message → Type 0) → State → State → Type 0
-CommitAction p seen = CommitBy p (DecidedIn p seen)
+CommitAction p seen = CommitBy p (DecidedOrDeclinedIn p seen)
 
 abbrev pub AbortAction : Plan → (Message → Type 0) → State → State → Type 0
-AbortAction p seen = AbortBy p (DecidedIn p seen)
+AbortAction p seen = AbortBy p (DecidedOrDeclinedIn p seen)
 
 -- N as msgs; rmState and aState are no leader's
 abbrev pub stateOf : Plan → List ℕ → (ℕ → ℕ) → (ℕ → ℕ → AState) → State
 stateOf p network rmState aState = record { rmState = rmState; aState = aState; msgs = setOf (messages p network) }
 
--- 1b and 2b
+-- 1b and 2b, and of the 2a messages those at ballot 0
 abbrev pub isReceived : Wire.Message → Bool
 isReceived (Phase1a ins bal) = false
 isReceived (Phase1b ins acc mbal vote) = true
-isReceived (Phase2a ins bal val) = false
+isReceived (Phase2a ins bal val) = eqb bal 0
 isReceived (Phase2b ins acc bal val) = true
 isReceived (Decision val) = false
 

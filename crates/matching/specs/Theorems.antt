@@ -4,7 +4,8 @@
 --     *-keeps         a refused call leaves both tables as they were, and the summary
 --     *-sound         well-formed tables stay well formed, of the same lengths, and so does the summary
 --     and for each action: an accepted call sets what the published action sets; the sent message, the answered slot and every byte are given.
---     plain-answers       the leader's call without a summary, which reads Decided from its inbox, answers by document 01's rows
+--     plain-answers       the leader's call without a summary, which reads what is decided or declined from its inbox, answers by document 01's rows
+--     inbox-says, announced-in     what it so reads, as a test of the inbox and as a claim
 --     leader-unmarked     a kind other than 4 leaves the summary as it was (what kind 4 leaves is in leader-receipt)
 --     majorities-meet     a plan's majorities are as document 001 assumes them, so the theorems of paxos_commit hold at every plan
 --     readable-messages   a message in range is one of document 001's set Message
@@ -16,7 +17,7 @@
 -- Assumes nothing.
 use Prim.Native.Nat.{ℕ, _+_, _≤_, _<_}
 use mathlib.Core.List.{List, _∷_, _++_}
-use mathlib.Core.Logic.{_↔_}
+use mathlib.Core.Logic.{_⊎_, _↔_}
 use mathlib.Core.Path.{_≡_, refl}
 use lib.ListN.{length, set}
 use Rattle.message.specs.declared.Plan.{Plan}
@@ -32,6 +33,8 @@ use Rattle.change.specs.Change.{Step}
 use Rattle.event.specs.Event.{kindOf, whoOf, slotNumber, highOf, lowOf}
 use Rattle.tcommit.specs.RmState.{prepared, committed, aborted}
 use Rattle.paxos_commit.specs.PaxosCommit.{Assume, IsMessage, Commit, Abort, AState, State, Val, Message, phase2a}
+use Rattle.paxos_commit.specs.PaxosCommit as Source
+use Rattle.paxos_commit.specs.Words.{announced-words}
 use Rattle.rm.specs.Rm.{rmJudged, rmStep}
 use Rattle.acceptor.specs.Acceptor.{voteAt, acceptorJudged, acceptorStep}
 use Rattle.event.specs.Event.Laws.{rm-who, acceptor-who, leader-who, event-instance}
@@ -46,21 +49,32 @@ use Rattle.matching.specs.Rm.Laws as Rm
 use Rattle.matching.specs.Acceptor.{Phase1bAction, Phase2bAction, stateOf as acceptorState, reportOf, acceptorRows}
 use Rattle.matching.specs.Acceptor.Ruled.{acceptor-ruled}
 use Rattle.matching.specs.Acceptor.Laws as Acceptor
-use mathlib.Core.Bool.{Bool, true}
+use mathlib.Core.Bool.{Bool, true, _||_}
 use mathlib.Core.List.{List·Memᴰ}
 use Rattle.quorum.specs.Quorum.{isQuorum}
 use Rattle.message.specs.declared.Vote.the-variants.{Cast}
 use Rattle.message.specs.Plan.{isPlan}
-use Rattle.inbox.specs.Inbox.{decided}
-use Rattle.summary.specs.Summary.{marked}
+use Rattle.inbox.specs.Inbox.{any, decided}
+use Rattle.summary.specs.Summary.{isDecline, marked, decidedOrDeclined}
+use Rattle.summary.specs.Summary.Laws.{announced-prepared, announced-aborted}
 use Rattle.leader.specs.Leader.{owns, leaderJudged, isSummary, stands, leaderStepBy, LeaderStep, leaderStep}
-use Rattle.matching.specs.Leader.{Phase1aAction, Phase2aAction, CommitBy, AbortBy, DecidedIn, proposed, Reports, leaderRowsBy, leaderRows}
+use Rattle.matching.specs.Leader.{Phase1aAction, Phase2aAction, CommitBy, AbortBy, DecidedIn, DecidedOrDeclinedIn, proposed, Reports, leaderRowsBy, leaderRows}
 use Rattle.matching.specs.Leader.{stateOf as leaderState}
 use Rattle.matching.specs.Leader.Decided.{DecidedBy, reflects-by}
-use Rattle.matching.specs.Leader.Conditions.{reflects-inbox}
+use Rattle.matching.specs.Leader.Declined.{reflects-inbox}
 use Rattle.matching.specs.Leader.Ruled.{leader-ruled}
 use Rattle.matching.specs.Leader.Laws as Leader
 use Rattle.matching.specs.Leader.Own as Own
+
+-- Decided, or for aborted the 2a of ballot 0 by which weight i declines: by the messages of an inbox, and by a set of messages
+pub inbox-says : (p : Plan) (ms : List Wire.Message) (i : ℕ)
+    → (decidedOrDeclined p ms i 1 ≡ decided p ms i 1) × (decidedOrDeclined p ms i 2 ≡ (decided p ms i 2 || any (isDecline i) ms))
+inbox-says p ms i = (announced-prepared p ms i, announced-aborted p ms i)
+
+pub announced-in : (p : Plan) (seen : Message → Type 0) (i : ℕ)
+    → (DecidedOrDeclinedIn p seen i Source.prepared ↔ DecidedIn p seen i Source.prepared)
+    × (DecidedOrDeclinedIn p seen i Source.aborted ↔ (DecidedIn p seen i Source.aborted ⊎ seen (phase2a i 0 Source.aborted)))
+announced-in p = announced-words (isRM p) (isAcceptor p) (isMajoritySet p)
 
 -- module PaxosCommit's ASSUME at a plan's constants
 pub majorities-meet : (p : Plan) → Assume (isRM p) (isAcceptor p) (isMajoritySet p)
@@ -220,17 +234,18 @@ module _ (p : Plan) (inbox summary network e : List ℕ) where
     pub leader-answers : InOrder (leaderRows p inbox summary network e (leaderState p network rmState aState)) (leader .step .answer)
     leader-answers = in-order-of-ruled _ _ (Own.own-ruled p inbox summary network e rmState aState)
 
-    -- the call as document 01 has it, without a summary
-    pub plain-answers : Lowest (leaderRowsBy p (DecidedIn p seen) inbox network e (leaderState p network rmState aState))
-        (leaderStepBy p (decided p (messages p inbox)) inbox network e .answer)
+    -- the call without a summary: Decide is widened by the declines in the inbox
+    pub plain-answers : Lowest (leaderRowsBy p (DecidedOrDeclinedIn p seen) inbox network e (leaderState p network rmState aState))
+        (leaderStepBy p (decidedOrDeclined p (messages p inbox)) inbox network e .answer)
     unfolding isAscending
     plain-answers =
         lowest-of-ruled _ refl _
-        (leader-ruled p (decided p (messages p inbox)) (DecidedIn p seen) inbox network e (reflects-inbox p (messages p inbox)) rmState aState)
+        (leader-ruled p (decidedOrDeclined p (messages p inbox)) (DecidedOrDeclinedIn p seen) inbox network e (reflects-inbox p (messages p inbox))
+        rmState aState)
 
     module _ (taken : Accepted (leader .step .answer)) where
-      -- kind 4: quiet; N keeps its bytes, the inbox gains the message in the slot, and of a 2b for (i, v) the bit of v in byte i of the summary
-      -- is set where Decided(i, v) holds in the inbox then
+      -- kind 4: quiet; N keeps its bytes, the inbox gains the message in the slot, and `marked` sets bits of the summary: a 2b for (i, v)
+      -- that of v in byte i where Decided(i, v) holds in the inbox then, a 2a of (i, 0, aborted) that of aborted in byte i
       pub leader-receipt : kindOf e ≡ 4 → (m : Wire.Message) → messageAt (messages p network) (slotNumber e) ≡ accepted m
           → (leader .step .answer ≡ accepted Quiet)
           × (leader .step .network ≡ network)

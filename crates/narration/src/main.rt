@@ -1,5 +1,6 @@
 // The rehearsal in words, for people: reads what the rehearsal reads (document 01, "The rehearsal"), and says for each event what was
-// tried, with the message that its slot holds, what the call answered, with the message that was sent, and the row of states afterwards.
+// tried, with the message that its slot holds, what the call answered, with the message that was sent or the weight that is heard to decline,
+// and the row of states afterwards.
 // Where a read or a write fails it says so on standard error, and writes no more.
 //
 //     ACTORS, DEEDS                       who an event is of, and what it tries
@@ -234,20 +235,37 @@ fn say_refusal(text: Text, number: u8) -> Text {
     say(text, b" (0)", 0, &[number])
 }
 
-fn say_sent(text: Text, plan: Plan, network: &[u8], sent: Sent) -> Text {
+// What a quiet event took from its slot, where that is news. Of these a receipt alone takes a 2a, at ballot 0 (document 02, Paper 6).
+fn say_taken(text: Text, network: &[u8], slot: usize) -> Text {
+    let Read::Message(m) = slots::message_at(network, slot) else {
+        return text;
+    };
+    match m {
+        Message::Phase2a { ins, bal: _, val } => say(
+            text,
+            b"||: weight 0 declines, so the order can be aborted at once",
+            val as usize,
+            &[ins],
+        ),
+        _ => text,
+    }
+}
+
+// The message that an event sent, or what it took.
+fn say_sent(text: Text, plan: Plan, network: &[u8], event: &[u8], sent: Sent) -> Text {
     let text = say_words(text, b"accepted");
     match sent {
         Sent::Slot(slot) => {
             let text = say_words(text, b", stands in slot ");
             say_slot(text, plan, network, slot)
         }
-        Sent::Quiet => text,
+        Sent::Quiet => say_taken(text, network, event::slot_number(event)),
     }
 }
 
-fn say_answer(text: Text, plan: Plan, network: &[u8], answer: Answer) -> Text {
+fn say_answer(text: Text, plan: Plan, network: &[u8], event: &[u8], answer: Answer) -> Text {
     match answer {
-        Answer::Accepted(sent) => say_sent(text, plan, network, sent),
+        Answer::Accepted(sent) => say_sent(text, plan, network, event, sent),
         Answer::Refused(number) => say_refusal(text, number),
     }
 }
@@ -267,9 +285,16 @@ fn say_row(text: Text, states: &[u8]) -> Text {
 }
 
 // What was answered, and the row afterwards, each on a line of its own.
-fn say_outcome(text: Text, plan: Plan, network: &[u8], answer: Answer, states: &[u8]) -> Text {
+fn say_outcome(
+    text: Text,
+    plan: Plan,
+    network: &[u8],
+    event: &[u8],
+    answer: Answer,
+    states: &[u8],
+) -> Text {
     let text = say_words(text, b"\n    ");
-    let text = say_answer(text, plan, network, answer);
+    let text = say_answer(text, plan, network, event, answer);
     let text = say_words(text, b"\n    ");
     let text = say_row(text, states);
     say_words(text, b"\n")
@@ -309,7 +334,7 @@ fn tell_events(
         made += 1;
         let tried = say_event(made, plan, network, event);
         let answer = record::step(plan, states, votes, network, inboxes, summary, event);
-        let text = say_outcome(tried, plan, network, answer, states);
+        let text = say_outcome(tried, plan, network, event, answer, states);
         written = write(written, text);
     }
     written

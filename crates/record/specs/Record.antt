@@ -1,4 +1,4 @@
--- The order record: the event call of all nine kinds (document 01, "The plan and four tables" and "Refusals by place"; document 02, Paper 5). The
+-- The order record: the event call of all nine kinds (document 01, "The plan and four tables" and "Refusals by place"; document 02, Papers 5 and 6). The
 -- tables, their lengths and opening them are the crate `opening`, judging the four of document 01 (inboxOf, areInboxes, recordJudged) the crate
 -- `judging`; their definitions have their names here too.
 --     withInbox                          I with other bytes in one inbox
@@ -8,7 +8,7 @@
 --     onStates, onVotes, onInbox         a role's own step as a step of the record
 --     roleStep, settled                  the step of the role of the event's kind, by what each leader reads as Decided
 --     bySummary, marking, recordStep     the event call: Decided is read from the summary, and an accepted receipt marks it
---     byInbox, plainStep                 beside it the call of document 01, which has no summary: Decided is read from the inbox
+--     byInbox, plainStep                 beside it the call without a summary: what is Decided or declined is read from the inbox
 -- Its laws are in Record/. Assumes nothing.
 pub mod Applied
 pub mod Laws
@@ -31,6 +31,7 @@ use Rattle.event.specs.Event.{kindOf, whoOf, isEvent}
 use Rattle.rm.specs.Rm.{rmStep}
 use Rattle.acceptor.specs.Acceptor.{acceptorStep}
 use Rattle.inbox.specs.Inbox.{decided}
+use Rattle.summary.specs.Summary.{decidedOrDeclined}
 use Rattle.leader.specs.Leader.{stands, isSummary, leaderStepBy, summaryAfter}
 pub use Rattle.opening.specs.Opening.{Tables, tablesOf, withStates, withVotes, withNetwork, withInboxes, withSummary, Opening, openingOf, opened}
 unfoldable pub use Rattle.opening.specs.Opening.{inboxSize, areLengths, lengthsJudged, openJudged, zeroed, recordOpen}
@@ -106,11 +107,11 @@ recordStep p t e =
     refuseIf (not (isEvent p e)) 7
     (accepted (marking p (λ inbox. decided p (messages p inbox)) (viewTable p) e (roleStep p (bySummary p t) t e)))))
 
--- leader l reads its inbox
+-- leader l reads its inbox: Decide widened by the 2a of a weight that declines
 abbrev pub byInbox : Plan → Tables → ℕ → ℕ → ℕ → Bool
-byInbox p t l = decided p (messages p (inboxOf p (t .inboxes) l))
+byInbox p t l = decidedOrDeclined p (messages p (inboxOf p (t .inboxes) l))
 
--- the call of document 01: a summary is neither read nor changed
+-- a summary is neither read nor changed
 unfoldable pub plainStep : Plan → Tables → List ℕ → RecordStep
 plainStep p t e =
     settled t (andThen (recordJudged p t) (λ _.

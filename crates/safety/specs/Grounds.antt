@@ -5,7 +5,8 @@
 --     Standing           each byte of the summary is what its leader's inbox says
 --     Grounded           the invariant, what the inboxes have to do with N, and the summary with them
 -- Below: Opened.antt, a record of zeros; Marks.antt, Inboxes.antt and Kept.antt, each event keeps it; Published.antt, each event is a step of module
--- PaxosCommit; Moves.antt, what becomes of W; Contradicted.antt, no decision contradicts; Steps.antt, one event call. Laws that these use: Zeros.antt, Stored.antt.
+-- PaxosCommit, Decide widened; Moves.antt, what becomes of W; Contradicted.antt, no decision contradicts; Steps.antt, one event call. Laws that these
+-- use: Zeros.antt, Stored.antt.
 -- Assumes nothing.
 pub mod Zeros
 pub mod Stored
@@ -48,7 +49,7 @@ Unchanged t t′ = (t′ .states ≡ t .states) × (t′ .votes ≡ t .votes) ×
 pub record Standing (p : Plan) (t : Tables) : Type 0 where
   -- row 20 does not apply
   pub right : isSummary (p .rms * p .leaders) (t .summary) ≡ true
-  -- byte i of leader l's is what is decided of instance i by the messages in its inbox
+  -- byte i of leader l's is what is decided of instance i, or declined, by the messages in its inbox
   pub says : (l : ℕ) → l < p .leaders → Says p (messages p (inboxOf p (t .inboxes) l)) (summaryOf p t l)
 
 pub record Grounded (p : Plan) (t : Tables) : Type 0 where

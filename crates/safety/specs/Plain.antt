@@ -1,5 +1,5 @@
--- The lists of calls of Lists.antt without a summary, as they were before document 02's Paper 5: Decided is read from the inbox, row 20 does not
--- stand, and a fifth table is neither read nor changed.
+-- The lists of calls of Lists.antt without a summary (document 02, Paper 5): what is Decided, or declined (Paper 6), is read from the inbox, row 20 does
+-- not stand, and a fifth table is neither read nor changed.
 --     plainCalls                    the single event calls one after the other
 --     plainJudged, plainRun         the list call: rows 1 to 6, then 19
 --     plainCounted, plainMade       the events that a list of calls comes to, and the single calls
@@ -16,7 +16,7 @@ use Rattle.record.specs.Record.{Tables, RecordStep, recordJudged, plainStep}
 use Rattle.batch.specs.Run.{eventsOf, tablesLeft, numbersOf, Run, isList, settledRun}
 use Rattle.safety.specs.Lists.{Call, event, run, countedFor}
 
--- `plainStep` is the event call of document 01
+-- `plainStep` is the event call without a summary
 abbrev pub plainCalls : Plan → Tables → List (List ℕ) → List RecordStep
 plainCalls p t [] = []
 plainCalls p t (e ∷ es) = plainStep p t e ∷ plainCalls p (plainStep p t e .tables) es

@@ -1,7 +1,8 @@
--- What the summary says (document 02, Paper 5), after every list of calls from a fresh record: event calls and list calls, the summary zeroed at
+-- What the summary says (document 02, Papers 5 and 6), after every list of calls from a fresh record: event calls and list calls, the summary zeroed at
 -- opening and handed on like the four tables.
 --     summary-true               each byte equals what its inbox says; whatever the lengths
---     summary-decided            so each bit is what the source calls Decided, by the messages of the inbox
+--     summary-decided            so each bit is what the source calls Decided by the messages of the inbox, for aborted also the 2a of a weight that
+--                                declined
 --     same-answers, same-runs    with a summary of n × L bytes, which opening asks for, all answers are those without a summary, and so are the four
 --                                tables; a list call's too
 --     same-opened                so it is from opening on
@@ -19,22 +20,22 @@ use lib.Seq.{getD-drop}
 use Rattle.message.specs.declared.Plan.{Plan}
 use Rattle.message.specs.declared.Message.{Message}
 use Rattle.message.specs.Outcome.{accepted, refused}
-use Rattle.message.specs.Form.{isValue}
 use Rattle.slots.specs.Table.{messages}
 use Rattle.slots.specs.Table.Holds.{allInRange, holds-judged}
 use Rattle.quorum.specs.Mask.{hasBit}
-use Rattle.inbox.specs.Inbox.{decided}
-use Rattle.summary.specs.Summary.{standing}
-use Rattle.summary.specs.Summary.Laws.{summary-length, zeros-sound}
+use Rattle.summary.specs.Summary.{decidedOrDeclined, standing}
+use Rattle.summary.specs.Summary.Laws.{summary-length, is-value, zeros-sound}
 use Rattle.summary.specs.Summary.Standing.{says-zeros, stands-says}
 use Rattle.leader.specs.Leader.{isSummary, stands}
 use Rattle.record.specs.Record.{Tables, withSummary, inboxOf, zeroed, areLengths, recordJudged, RecordStep, recordOpen, plainStep}
 use Rattle.record.specs.Record.Plain.{plain-with}
 use Rattle.record.specs.Record.Laws.{inbox-whole}
 use Rattle.record.specs.Record.Summary.{summary-byte}
-use Rattle.matching.specs.Reading.{valOf}
-use Rattle.matching.specs.Leader.{DecidedIn}
-use Rattle.matching.specs.Leader.Conditions.{decided-Decided, Decided-decided}
+use Rattle.paxos_commit.specs.PaxosCommit.{prepared, aborted, phase2a}
+use Rattle.paxos_commit.specs.Words.{announced-words}
+use Rattle.matching.specs.Reading.{isRM, isAcceptor, isMajoritySet, valOf}
+use Rattle.matching.specs.Leader.{DecidedIn, DecidedOrDeclinedIn}
+use Rattle.matching.specs.Leader.Declined.{reflects-inbox}
 use Rattle.batch.specs.Run.{eventsOf, tablesLeft, numbersOf, Run, recordRun}
 use Rattle.batch.specs.Run.Laws.{calls-keep}
 use Rattle.safety.specs.Lists.{Fresh, Call, event, run, countedFor, counted, made, answers, tablesAfter}
@@ -64,7 +65,7 @@ module _ (p : Plan) (t : Tables) (l : ℕ) (member : l < p .leaders) where
   range-used (inr idle) = rw (unheard-zeros p t (idle .unheard) l member)
 
   bit-used : Used p t → (i v : ℕ) → i < p .rms → (v ≡ 1) ⊎ (v ≡ 2)
-      → stands (t .summary) (l * p .rms + i) v ≡ decided p (messages p (inboxOf p (t .inboxes) l)) i v
+      → stands (t .summary) (l * p .rms + i) v ≡ decidedOrDeclined p (messages p (inboxOf p (t .inboxes) l)) i v
   unfolding stands
   bit-used u i v rm value =
       ap (λ (b : ℕ). hasBit b (v - 1)) (sym (getD-drop (l * p .rms) (t .summary) i 0))
@@ -79,19 +80,23 @@ module _ (p : Plan) (t : Tables) (fresh : Fresh t) (calls : List Call) where
       → getD (tablesAfter p t calls .summary) (l * p .rms + i) 0 ≡ standing p (messages p (inboxOf p (tablesAfter p t calls .inboxes) l)) i
   summary-true l i member rm = byte-used p (tablesAfter p t calls) l member used-after i rm
 
+  announced : (l i v : ℕ) → l < p .leaders → i < p .rms → (v ≡ 1) ⊎ (v ≡ 2)
+      → (stands (tablesAfter p t calls .summary) (l * p .rms + i) v ≡ true) ↔ DecidedOrDeclinedIn p (seenBy p (tablesAfter p t calls) l) i (valOf v)
+  announced l i v member rm value =
+      let same = bit-used p (tablesAfter p t calls) l member used-after i v rm value in
+      let (forth, back) = reflects-inbox p _ (range-used p (tablesAfter p t calls) l member used-after) i v (is-value v value) in
+      (λ is. forth (sym same ∙ is), λ d. same ∙ back d)
+
   -- its bit for prepared, which is 1, and for aborted, which is 2
-  pub summary-decided : (l i v : ℕ) → l < p .leaders → i < p .rms → (v ≡ 1) ⊎ (v ≡ 2)
-      → (stands (tablesAfter p t calls .summary) (l * p .rms + i) v ≡ true) ↔ DecidedIn p (seenBy p (tablesAfter p t calls) l) i (valOf v)
-  unfolding isValue
-  summary-decided l i v member rm value =
-      let same = bit-used p (tablesAfter p t calls) l member used-after i v rm value in (
-        λ is. decided-Decided p _ i v (sym same ∙ is),
-        λ d. same ∙ Decided-decided p _ (range-used p (tablesAfter p t calls) l member used-after) i v (a-value value) d,
-      )
-    where
-      a-value : (v ≡ 1) ⊎ (v ≡ 2) → isValue v ≡ true
-      a-value (inl one) = rw one
-      a-value (inr two) = rw two
+  pub summary-decided : (l i : ℕ) → l < p .leaders → i < p .rms
+      → ((stands (tablesAfter p t calls .summary) (l * p .rms + i) 1 ≡ true) ↔ DecidedIn p (seenBy p (tablesAfter p t calls) l) i prepared)
+      × ((stands (tablesAfter p t calls .summary) (l * p .rms + i) 2 ≡ true)
+      ↔ (DecidedIn p (seenBy p (tablesAfter p t calls) l) i aborted ⊎ seenBy p (tablesAfter p t calls) l (phase2a i 0 aborted)))
+  summary-decided l i member rm =
+      let (one, two) = announced-words (isRM p) (isAcceptor p) (isMajoritySet p) (seenBy p (tablesAfter p t calls) l) i in
+      let (forth, back) = announced l i 1 member rm (inl refl) in
+      let (there, again) = announced l i 2 member rm (inr refl) in
+      ((λ is. one .0 (forth is), λ d. back (one .1 d)), (λ is. two .0 (there is), λ d. again (two .1 d)))
 
   module _ (whole : length (t .summary) ≡ p .rms * p .leaders) where
     right : isSummary (p .rms * p .leaders) (t .summary) ≡ true

@@ -1,14 +1,16 @@
-// The summary (document 02, Paper 5): beside an inbox a byte for each instance, bit 0 when prepared is Decided, bit 1 when aborted is.
+// The summary (document 02, Papers 5 and 6): beside an inbox a byte for each instance, bit 0 when prepared is Decided, bit 1 when aborted is or the
+// weight has declined.
 //
 //     is_summary                      row 20 of "Refusals by place"
 //     all_prepared, some_aborted      the conditions of kinds 7 and 8, read from it alone; covered, for how many instances it has a byte
 //     part_size                       how many bytes of a whole summary are a leader's
-//     mark_vote, mark_message, mark   what an accepted receipt does to it
+//     mark_vote, mark_decline, mark_message, mark     what an accepted receipt does to it
 //
 // It is lent a leader's bytes of the summary, of any content and length. What each of them means stands in specs/.
+ghost use mathlib.Core.Bool.{Bool};
 ghost use mathlib.Core.Path.{_≡_};
 ghost use Prim.Native.Nat.{ℕ, _-_, _/_, min};
-ghost use Rattle.message.specs.declared.Message.the-variants.{Phase2b};
+ghost use Rattle.message.specs.declared.Message.the-variants.{Phase2a, Phase2b};
 ghost use Rattle.slots.specs.View.Bytes.{viewBytes};
 ghost use Rattle.inbox.specs.Inbox.{forAll, forSome};
 ghost use Rattle.summary.specs.Summary.{isSummary, stands, marked, markedAt, decidedBytes};
@@ -110,7 +112,23 @@ fn mark_vote(plan: Plan, inbox: &[u8], summary: &mut [u8], ins: u8, val: u8)
     slots::set_byte(summary, at, with);
 }
 
-// Only a 2b marks.
+// A 2a for aborted at ballot 0 sets aborted's bit of ins: the weight declines.
+fn mark_decline(summary: &mut [u8], ins: u8, bal: u8, val: u8)
+    ensures { λ _. ⌜ ((isDecided : ℕ → ℕ → Bool) → now (summary .exit) ≡
+        marked isDecided (now (summary .entry)) (Phase2a ins bal val)) ⌝ }
+{
+    if bal != 0 {
+        return;
+    }
+    if val != 2 {
+        return;
+    }
+    let at = ins as usize;
+    let byte = message::byte_at(summary, at);
+    slots::set_byte(summary, at, quorum::insert_bit(byte, 1));
+}
+
+// A 2b marks where it decides, a 2a where it declines.
 fn mark_message(plan: Plan, inbox: &[u8], summary: &mut [u8], m: Message)
     ensures { λ _. ⌜ now (summary .exit) ≡
         marked (decidedBytes plan (now (inbox .entry))) (now (summary .entry)) m ⌝ }
@@ -123,11 +141,7 @@ fn mark_message(plan: Plan, inbox: &[u8], summary: &mut [u8], m: Message)
             mbal: _,
             vote: _,
         } => {}
-        Message::Phase2a {
-            ins: _,
-            bal: _,
-            val: _,
-        } => {}
+        Message::Phase2a { ins, bal, val } => mark_decline(summary, ins, bal, val),
         Message::Phase2b {
             ins,
             acc: _,

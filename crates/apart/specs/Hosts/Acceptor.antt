@@ -86,7 +86,7 @@ module _ (p : Plan) (s : System) (g : Grounded p s) (e : List ℕ) where
           subst (λ (y : Message). (x : Message) → setOf (m ∷ s .wire) x ↔ (setOf (s .wire) x ⊎ (x ≡ y))) (report-is p votes ins a (ok .0) member bal) (wire-adds (s .wire) m),
           refl,
         ) in
-        claim-sends p s (g .tied) acceptor a r m sent (λ l. refl) (λ l i v h. h) (unowned-other p _ refl) (inr (inr (inr (a, member, inl (ins, bal, acts)))))
+        claim-sends p s (g .tied) acceptor a r m sent (λ l. refl) (λ l i v h. h) (unowned-other p _ refl) (inl (inr (inr (inr (a, member, inl (ins, bal, acts))))))
 
     votes-for : (ins bal val : ℕ) → InSlot p network e (Phase2a ins bal val) → Claim p s acceptor a r (sentBy p r)
     votes-for ins bal val slot =
@@ -94,7 +94,8 @@ module _ (p : Plan) (s : System) (g : Grounded p s) (e : List ℕ) where
         let m : Wire.Message = Phase2b ins a bal val in
         let acts : Phase2bAction p a ins bal (valOf val) (published p s) (published p (after s acceptor a r (m ∷ [])))
         = (sent-before _ slot, low, entry-set p (s .hosts acceptor) ins a _ _ is, wire-adds (s .wire) m, refl) in
-        claim-sends p s (g .tied) acceptor a r m sent (λ l. refl) (λ l i v h. h) (unowned-other p _ refl) (inr (inr (inr (a, member, inr (ins, bal, valOf val, acts)))))
+        claim-sends p s (g .tied) acceptor a r m sent (λ l. refl) (λ l i v h. h) (unowned-other p _ refl)
+        (inl (inr (inr (inr (a, member, inr (ins, bal, valOf val, acts))))))
 
     -- row 8: the slot is used
     used : length (messages p network) ≤ slotNumber e → ⊥

@@ -1,7 +1,7 @@
 -- A leader's own call on its own host.
 --     leader-claim          an accepted call keeps what is claimed
 --     leader-not-11         11 is no number of this call
---     marked-new            a receipt sets a bit only where it is decided
+--     marked-new            a receipt sets a bit only where it is decided, or declined by the message
 --     summary-grows         no call clears a bit
 -- Assumes nothing.
 use Prim.Native.Nat.{ℕ, _<_, _≤_}
@@ -29,22 +29,24 @@ use Rattle.change.specs.declared.Sent.{Sent}
 use Rattle.event.specs.Event.{kindOf, whoOf, highOf, lowOf, slotNumber}
 use Rattle.event.specs.Event.Laws.{event-parts}
 use Rattle.tcommit.specs.TCommit.Laws.{except-cases}
-use Rattle.paxos_commit.specs.PaxosCommit.{Val, Message, AState, phase2a, Send, PCNext}
+use Rattle.paxos_commit.specs.PaxosCommit.{Val, Message, AState, phase2a, Send}
+use Rattle.paxos_commit.specs.Widened.{WidenedNext}
 use Rattle.paxos_commit.specs.PaxosCommit.Safety.Leader.{phase2a-of-part, decide-commit-of-part, decide-abort-of-part}
 use Rattle.inbox.specs.Inbox.{decided}
 use Rattle.summary.specs.Summary.{marked, markedAt}
-use Rattle.summary.specs.Summary.Laws.{summary-length, vote-parts, marked-bit, marked-grows}
+use Rattle.summary.specs.Summary.Laws.{summary-length, vote-parts, proposal-instance, marked-bit, marked-decline, marked-grows}
 use Rattle.leader.specs.Leader.{owns, stands, summaryAfter, leaderStep}
 use Rattle.phase2a.specs.Phase2a.Laws.{one-owner, owns-above}
-use Rattle.matching.specs.Reading.{isRM, isAcceptor, isMajoritySet, messageOf, setOf}
+use Rattle.matching.specs.Reading.{isRM, isAcceptor, isMajoritySet, valOf, messageOf, setOf}
 use Rattle.matching.specs.Call.{Accepted, Sends, Stores}
 use Rattle.matching.specs.Call.Laws.{messageAt-cases, unused-past, member-at, slot-in-range}
-use Rattle.matching.specs.Leader.{Phase1aAction, Phase2aAction, CommitAction, AbortAction, proposed, stateOf, leaderRows}
+use Rattle.matching.specs.Leader.{Phase1aAction, Phase2aAction, DecidedOrDeclinedIn, CommitAction, AbortAction, proposed, stateOf, leaderRows}
 use Rattle.matching.specs.Leader.Conditions.{decided-Decided}
 use Rattle.matching.specs.Leader.Took.{Took}
 use Rattle.matching.specs.Leader.Own.{own-right, own-took}
 use Rattle.matching.specs.Theorems.{leader-answers, leader-instance, leader-unmarked, leader-receipt, leader-phase1a, leader-phase2a}
 use Rattle.matching.specs.Theorems.{leader-commit, leader-abort}
+use Rattle.safety.specs.Grounds.Stored.{stores-new}
 use Rattle.safety.specs.Grounds.Kept.{Unowned, unowned-other}
 use Rattle.apart.specs.Hosts.{leader, Host, System, Left, called, after, sentBy, row, published}
 use Rattle.apart.specs.Hosts.Moved.{except-other, new-host}
@@ -56,13 +58,28 @@ leader-not-11 p inbox summary network e rmState aState is =
     let rows = leaderRows p inbox summary network e (stateOf p network rmState aState) in
     row-applies rows 11 (applies-of-first rows 11 (leader-answers p inbox summary network e rmState aState .refuses 11 .0 is)) tt
 
--- a receipt sets a bit only where d says so
+-- a receipt sets a bit only where d says so, or m is the 2a by which weight i declines
+abbrev Gained : (ℕ → ℕ → Bool) → List ℕ → Wire.Message → ℕ → ℕ → Type 0
+Gained d summary m i v = (stands summary i v ≡ true) ⊎ ((d i v ≡ true) ⊎ ((v ≡ 2) × (m ≡ Phase2a i 0 2)))
+
 pub marked-new : (d : ℕ → ℕ → Bool) (p : Plan) (summary : List ℕ) → length summary ≡ p .rms → (m : Wire.Message) → isInRange p m ≡ true
-    → (i v : ℕ) → (v ≡ 1) ⊎ (v ≡ 2) → stands (marked d summary m) i v ≡ true → (stands summary i v ≡ true) ⊎ (d i v ≡ true)
+    → (i v : ℕ) → (v ≡ 1) ⊎ (v ≡ 2) → stands (marked d summary m) i v ≡ true → Gained d summary m i v
 unfolding marked
 marked-new d p summary size (Phase1a ins bal) range i v value h = inl h
 marked-new d p summary size (Phase1b ins acc mbal vote) range i v value h = inl h
-marked-new d p summary size (Phase2a ins bal val) range i v value h = inl h
+marked-new d p summary size (Phase2a ins bal val) range i v value h =
+    go (stands summary i v) (eqb ins i) (eqb 2 v) (eqb bal 0) (eqb val 2) refl refl refl refl refl
+    (sym (marked-decline d summary i v ins bal val (rw size (proposal-instance p ins bal val range)) value) ∙ h)
+  where
+    go : (s t u w x : Bool) → stands summary i v ≡ s → eqb ins i ≡ t → eqb 2 v ≡ u → eqb bal 0 ≡ w → eqb val 2 ≡ x
+        → (s || (t && (u && (w && x)))) ≡ true → Gained d summary (Phase2a ins bal val) i v
+    go true t u w x is a b c f h = inl is
+    go false false u w x is a b c f h = absurd (false≢true h)
+    go false true false w x is a b c f h = absurd (false≢true h)
+    go false true true false x is a b c f h = absurd (false≢true h)
+    go false true true true false is a b c f h = absurd (false≢true h)
+    go false true true true true is a b c f h =
+        inr (inr (sym (eqb-true 2 v b), rw (eqb-true ins i a, eqb-true bal 0 c, eqb-true val 2 f)))
 marked-new d p summary size (Decision val) range i v value h = inl h
 marked-new d p summary size (Phase2b ins acc bal val) range i v value h =
     let (below, values) = vote-parts p ins acc bal val range in
@@ -70,11 +87,11 @@ marked-new d p summary size (Phase2b ins acc bal val) range i v value h =
     (sym (marked-bit d summary i v ins acc bal val (rw size below) values value) ∙ h)
   where
     go : (s t u : Bool) → stands summary i v ≡ s → eqb ins i ≡ t → eqb val v ≡ u → (s || (t && (u && d ins val))) ≡ true
-        → (stands summary i v ≡ true) ⊎ (d i v ≡ true)
+        → Gained d summary (Phase2b ins acc bal val) i v
     go true t u is a b h = inl is
     go false false u is a b h = absurd (false≢true h)
     go false true false is a b h = absurd (false≢true h)
-    go false true true is a b h = inr (rw (← eqb-true ins i a, ← eqb-true val v b) h)
+    go false true true is a b h = inr (inl (rw (← eqb-true ins i a, ← eqb-true val v b) h))
 
 -- of the host before and after any call
 pub summary-grows : (p : Plan) (h : Host) (e : List ℕ) (i v : ℕ) → stands (h .summary) i v ≡ true → stands (called p leader h e .host .summary) i v ≡ true
@@ -122,9 +139,9 @@ module _ (p : Plan) (s : System) (g : Grounded p s) (e : List ℕ) where
   abbrev next : List Wire.Message → System
   next sent = after s leader l r sent
 
-  -- an action of module PaxosCommit
+  -- an action of module PaxosCommit with Decide widened
   abbrev Acts : List Wire.Message → Type 0
-  Acts sent = PCNext (isRM p) (isAcceptor p) (isMajoritySet p) (published p s) (published p (next sent))
+  Acts sent = WidenedNext (isRM p) (isAcceptor p) (isMajoritySet p) (published p s) (published p (next sent))
 
   new-leader : (sent : List Wire.Message) → next sent .hosts leader l ≡ r .host
   new-leader sent = new-host (s .hosts) leader l (r .host)
@@ -174,6 +191,12 @@ module _ (p : Plan) (s : System) (g : Grounded p s) (e : List ℕ) where
     unmarked : (kindOf e ≡ 4 → ⊥) → r .host .summary ≡ summary
     unmarked = leader-unmarked p inbox summary network e taken
 
+    announced : (i v : ℕ) (m : Wire.Message) (box : List ℕ) → Stores p inbox m box
+        → (decided p (messages p box) i v ≡ true) ⊎ ((v ≡ 2) × (m ≡ Phase2a i 0 2)) → DecidedOrDeclinedIn p (setOf (messages p box)) i (valOf v)
+    announced i v m box stores (inl d) = inl (decided-Decided p (messages p box) i v d)
+    announced i v m box stores (inr (two, is)) =
+        inr (ap valOf two, subst (setOf (messages p box)) (ap messageOf is) (stores-new p inbox box m stores))
+
     receives : kindOf e ≡ 4 → (m : Wire.Message) → messageAt (messages p network) (slotNumber e) ≡ accepted m → Claim p s leader l r (sentBy p r)
     receives kind m slot =
         let (silent, same, stores, marks) = leader-receipt p inbox summary network e (row s) aState taken kind m slot in
@@ -186,7 +209,7 @@ module _ (p : Plan) (s : System) (g : Grounded p s) (e : List ℕ) where
           tied-inbox p s (g .tied) (next []) (λ x h. h)
               (nets-quiet p s (g .tied) leader l r (λ x h. g .tied .networks leader l x (rw same at h)))
               l m (rw (new-table []) stores) (other-leader []) (m, g .tied .networks leader l m (member-at _ _ m slot), refl)
-              (rw (new-leader [], marks) (λ i v value h. ⊎-elim inl (λ d. inr (decided-Decided p _ i v d)) (gained i v value h)))
+              (rw (new-leader [], marks) (λ i v value h. ⊎-elim inl (λ new. inr (announced i v m (r .host .table) stores new)) (gained i v value h)))
               (λ k b i v o h. inl h),
         )
 
@@ -196,7 +219,7 @@ module _ (p : Plan) (s : System) (g : Grounded p s) (e : List ℕ) where
         let m : Wire.Message = Phase1a (highOf e) (lowOf e) in
         let acts : Phase1aAction p (lowOf e) (highOf e) (published p s) (published p (next (m ∷ []))) = (wire-adds (s .wire) m, refl, refl) in
         sends m sent same (unmarked (λ four. omega arith)) (unowned-other p _ refl)
-        (inr (inl (lowOf e, highOf e, instance (omega arith) (omega arith), owns-above p (lowOf e) l (owned (inl kind)), inl acts)))
+        (inl (inr (inl (lowOf e, highOf e, instance (omega arith) (omega arith), owns-above p (lowOf e) l (owned (inl kind)), inl acts))))
 
     commits : kindOf e ≡ 7 → Claim p s leader l r (sentBy p r)
     commits kind =
@@ -204,7 +227,7 @@ module _ (p : Plan) (s : System) (g : Grounded p s) (e : List ℕ) where
         let acts : CommitAction p seen (published p s) (published p (next (Decision 1 ∷ [])))
         = (λ i member. g .tied .standing l i 1 (inl refl) (all i member), wire-adds (s .wire) (Decision 1), refl, refl) in
         sends (Decision 1) sent same (unmarked (λ four. omega arith)) (unowned-other p _ refl)
-        (inr (inr (inl (decide-commit-of-part (g .inv) seen (g .tied .inboxes l) _ acts))))
+        (inl (inr (inr (inl (decide-commit-of-part (g .inv) seen (g .tied .inboxes l) _ acts)))))
 
     aborts : kindOf e ≡ 8 → Claim p s leader l r (sentBy p r)
     aborts kind =
@@ -212,7 +235,7 @@ module _ (p : Plan) (s : System) (g : Grounded p s) (e : List ℕ) where
         let acts : AbortAction p seen (published p s) (published p (next (Decision 2 ∷ [])))
         = ((i, member, g .tied .standing l i 2 (inr refl) some), wire-adds (s .wire) (Decision 2), refl, refl) in
         sends (Decision 2) sent same (unmarked (λ four. omega arith)) (unowned-other p _ refl)
-        (inr (inr (inl (decide-abort-of-part (g .inv) seen (g .tied .inboxes l) _ acts))))
+        (inr (decide-abort-of-part (g .inv) seen (g .tied .inboxes l) _ acts))
 
     -- the leader has no 2a for the instance and its ballot, so nobody has sent one, and no other leader has to have it
     proposes : kindOf e ≡ 6 → Claim p s leader l r (sentBy p r)
@@ -245,13 +268,13 @@ module _ (p : Plan) (s : System) (g : Grounded p s) (e : List ℕ) where
 
             acted : Acts (m ∷ [])
             acted =
-                inr (inl (
+                inl (inr (inl (
                   lowOf e,
                   highOf e,
                   instance (omega arith) (omega arith),
                   owns-above p (lowOf e) l mine,
                   inr (phase2a-of-part (g .inv) seen (g .tied .inboxes l) _ (lowOf e) (highOf e) (λ w h. unsent w (g .tied .own-2a l (lowOf e) mine (highOf e) w h)) acts),
-                ))
+                )))
 
             owner : (k b i : ℕ) (w : Val) → owns p k b ≡ true → phase2a i b w ≡ messageOf m → k ≡ l
             owner k b i w o d = let f = d ∙ sym is in let low : b ≡ lowOf e = cc in one-owner p (lowOf e) k l (rw low at o) mine

@@ -84,7 +84,7 @@ module _ (p : Plan) (s : System) (e : List ℕ) where
         → PCNext (isRM p) (isAcceptor p) (isMajoritySet p) (published p s) (published p (after s rm i r [])) → Claim p s rm i r (sentBy p r)
     quiet is same next =
         rw is (
-          inl next,
+          inl (inl next),
           tied-same p s g _ (λ x h. h) (nets-quiet p s g rm i r (λ m h. g .networks rm i m (rw same at h))) (λ l. refl) (λ l j v h. h) (λ l b j v o h. h),
         )
 
@@ -99,14 +99,14 @@ module _ (p : Plan) (s : System) (e : List ℕ) where
         let ((works, is, joined, same), sent, table) = rm-prepare p states network e aState taken kind in
         let acts : RMPrepare p i (published p s) (published p (after s rm i r (Phase2a i 0 1 ∷ [])))
         = (works, row-set (s .hosts rm) i prepared _ is, wire-adds (s .wire) (Phase2a i 0 1), refl) in
-        claim-sends p s g rm i r (Phase2a i 0 1) sent (λ l. refl) (λ l j v h. h) (unowned-zero p i _) (inl (i, member, inl acts))
+        claim-sends p s g rm i r (Phase2a i 0 1) sent (λ l. refl) (λ l j v h. h) (unowned-zero p i _) (inl (inl (i, member, inl acts)))
 
     chooses : kindOf e ≡ 1 → Claim p s rm i r (sentBy p r)
     chooses kind =
         let ((works, is, joined, same), sent, table) = rm-choose-to-abort p states network e aState taken kind in
         let acts : RMChooseToAbort p i (published p s) (published p (after s rm i r (Phase2a i 0 2 ∷ [])))
         = (works, row-set (s .hosts rm) i aborted _ is, wire-adds (s .wire) (Phase2a i 0 2), refl) in
-        claim-sends p s g rm i r (Phase2a i 0 2) sent (λ l. refl) (λ l j v h. h) (unowned-zero p i _) (inl (i, member, inr (inl acts)))
+        claim-sends p s g rm i r (Phase2a i 0 2) sent (λ l. refl) (λ l j v h. h) (unowned-zero p i _) (inl (inl (i, member, inr (inl acts))))
 
     learns-commit : kindOf e ≡ 2 → (m : Wire.Message) → messageAt (messages p network) (slotNumber e) ≡ accepted m → messageOf m ≡ Commit
         → Claim p s rm i r (sentBy p r)

@@ -1,4 +1,4 @@
--- One happening: it is a step of module PaxosCommit, keeps a system grounded, and does not answer 11.
+-- One happening: it is a step of module PaxosCommit, Decide widened, keeps a system grounded, and does not answer 11.
 --     call-claim, deliver-claim, restart-claim     what is claimed, of each case
 --     one-claim               so of every genuine happening
 --     grounded-one, path-one, agreed-one, not-11-one     what is then safe
@@ -20,7 +20,7 @@ use Rattle.change.specs.Change.{Step, refusal}
 use Rattle.event.specs.Event.{whoOf, isEvent}
 use Rattle.tcommit.specs.RmState.{committed, aborted}
 use Rattle.tcommit.specs.TCommit.{TCNext}
-use Rattle.paxos_commit.specs.PaxosCommit.Safety.Histories.{inv-step, tc-step}
+use Rattle.paxos_commit.specs.PaxosCommit.Safety.Histories.{inv-widened, tc-widened}
 use Rattle.paxos_commit.specs.PaxosCommit.Safety.Agreement.{consistent}
 use Rattle.matching.specs.Reading.{isRM}
 use Rattle.matching.specs.Call.{Accepted}
@@ -110,10 +110,10 @@ module _ (p : Plan) (s : System) (g : Grounded p s) where
     pub grounded-one : Grounded p (made p s h .system)
     grounded-one =
         let (allowed, tied) = one-claim h genuine in
-        record { inv = inv-step (majorities-meet p .1) (g .inv) (published p (made p s h .system)) allowed; tied = tied }
+        record { inv = inv-widened (majorities-meet p .1) (g .inv) (published p (made p s h .system)) allowed; tied = tied }
 
     pub path-one : (row (made p s h .system) ≡ row s) ⊎ TCNext (isRM p) (row s) (row (made p s h .system))
-    path-one = ⊎-elim inr inl (tc-step (majorities-meet p .1) (g .inv) (published p (made p s h .system)) (one-claim h genuine .0))
+    path-one = ⊎-elim inr inl (tc-widened (majorities-meet p .1) (g .inv) (published p (made p s h .system)) (one-claim h genuine .0))
 
     pub agreed-one : (i j : ℕ) → isRM p i → isRM p j → row (made p s h .system) i ≡ committed → row (made p s h .system) j ≡ aborted → ⊥
     agreed-one i j q k is gone = consistent (grounded-one .inv) (majorities-meet p .1) j i k q gone is

@@ -1,7 +1,7 @@
 -- What every system of hosts satisfies, and what a happening has to show for it.
 --     Carried, Tied               every message of a table was sent; what the hosts' tables have to do with what was sent
 --     Grounded                    that, and the invariant of module PaxosCommit
---     Allowed                     a step of module PaxosCommit
+--     Allowed                     a step of module PaxosCommit, Decide widened
 --     wire-old, wire-adds         the messages sent as a set: the old ones, and the new one
 --     hosts-cases                 a claim about every host, when one has new tables
 --     Heard, heard-of             a table as a set of published messages
@@ -23,13 +23,14 @@ use Rattle.message.specs.declared.Message as Wire
 use Rattle.slots.specs.Table.{messages}
 use Rattle.change.specs.Change.{refusal}
 use Rattle.tcommit.specs.TCommit.Laws.{except-cases}
-use Rattle.paxos_commit.specs.PaxosCommit.{State, AState, Val, Message, phase2a, PCNext, PCStep}
+use Rattle.paxos_commit.specs.PaxosCommit.{State, AState, Val, Message, phase2a}
 use Rattle.paxos_commit.specs.PaxosCommit.Safety.{Inv}
-use Rattle.paxos_commit.specs.PaxosCommit.Laws.{decided-kept}
+use Rattle.paxos_commit.specs.Widened.{WidenedNext, WidenedStep}
+use Rattle.paxos_commit.specs.Widened.Laws.{announced-kept}
 use Rattle.leader.specs.Leader.{owns, stands}
 use Rattle.matching.specs.Reading.{isRM, isAcceptor, isMajoritySet, valOf, messageOf, setOf, rmStateOf, aStateOf}
 use Rattle.matching.specs.Call.{Sends, Stores}
-use Rattle.matching.specs.Leader.{DecidedIn}
+use Rattle.matching.specs.Leader.{DecidedOrDeclinedIn}
 use Rattle.safety.specs.Grounds.Stored.{member-split, stores-kept, stores-new, stores-split}
 use Rattle.safety.specs.Grounds.Kept.{Unowned}
 use Rattle.apart.specs.Hosts.{Role, rm, acceptor, leader, Host, System, Left, leftBy, putHost, after, sentBy, SummaryKept, published}
@@ -45,17 +46,17 @@ pub record Tied (p : Plan) (s : System) : Type 0 where
   -- every 2a that was sent at a ballot which a leader owns is in its inbox
   pub own-2a : (l b : ℕ) → owns p l b ≡ true → (i : ℕ) (v : Val) → setOf (s .wire) (phase2a i b v)
       → setOf (messages p (s .hosts leader l .table)) (phase2a i b v)
-  -- whatever stands in a leader's summary is decided by its inbox
+  -- whatever stands in a leader's summary is decided by its inbox, or declined
   pub standing : (l i v : ℕ) → (v ≡ 1) ⊎ (v ≡ 2) → stands (s .hosts leader l .summary) i v ≡ true
-      → DecidedIn p (setOf (messages p (s .hosts leader l .table))) i (valOf v)
+      → DecidedOrDeclinedIn p (setOf (messages p (s .hosts leader l .table))) i (valOf v)
 
 pub record Grounded (p : Plan) (s : System) : Type 0 where
   pub inv : Inv (isRM p) (isAcceptor p) (isMajoritySet p) (published p s)
   pub tied : Tied p s
 
--- an action of module PaxosCommit, or its variables stay
+-- an action of module PaxosCommit with Decide widened, or its variables stay
 abbrev pub Allowed : Plan → System → System → Type 0
-Allowed p s s′ = PCStep (isRM p) (isAcceptor p) (isMajoritySet p) (published p s) (published p s′)
+Allowed p s s′ = WidenedStep (isRM p) (isAcceptor p) (isMajoritySet p) (published p s) (published p s′)
 
 pub wire-old : (ms xs : List Wire.Message) (x : Message) → setOf ms x → setOf (xs ++ ms) x
 wire-old ms xs x (m, h, e) = (m, Memᴰ·append-right xs h, e)
@@ -111,7 +112,7 @@ module _ (p : Plan) (s : System) (g : Tied p s) (s′ : System) (kept : (x : Mes
   module _ (l : ℕ) (m : Wire.Message) (stores : Stores p (s .hosts leader l .table) m (s′ .hosts leader l .table))
       (same : (k : ℕ) → (k ≡ l → ⊥) → s′ .hosts leader k ≡ s .hosts leader k) (sent : setOf (s′ .wire) (messageOf m))
       (marks : (i v : ℕ) → (v ≡ 1) ⊎ (v ≡ 2) → stands (s′ .hosts leader l .summary) i v ≡ true
-      → (stands (s .hosts leader l .summary) i v ≡ true) ⊎ DecidedIn p (setOf (messages p (s′ .hosts leader l .table))) i (valOf v))
+      → (stands (s .hosts leader l .summary) i v ≡ true) ⊎ DecidedOrDeclinedIn p (setOf (messages p (s′ .hosts leader l .table))) i (valOf v))
       (old : (k b i : ℕ) (v : Val) → owns p k b ≡ true → setOf (s′ .wire) (phase2a i b v)
       → setOf (s .wire) (phase2a i b v) ⊎ ((phase2a i b v ≡ messageOf m) × (k ≡ l))) where
     heard : (k : ℕ) → Dec (k ≡ l) → Heard p (s′ .wire) (s′ .hosts leader k .table)
@@ -127,10 +128,10 @@ module _ (p : Plan) (s : System) (g : Tied p s) (s′ : System) (kept : (x : Mes
     owned k (no n) b o i v h = rw (same k n) (⊎-elim (g .own-2a k b o i v) (λ d. absurd (n (d .1))) (old k b i v o h))
 
     marked : (k : ℕ) → Dec (k ≡ l) → (i v : ℕ) → (v ≡ 1) ⊎ (v ≡ 2) → stands (s′ .hosts leader k .summary) i v ≡ true
-        → DecidedIn p (setOf (messages p (s′ .hosts leader k .table))) i (valOf v)
+        → DecidedOrDeclinedIn p (setOf (messages p (s′ .hosts leader k .table))) i (valOf v)
     marked k (yes e) i v value h =
-        subst (λ (j : ℕ). DecidedIn p (setOf (messages p (s′ .hosts leader j .table))) i (valOf v)) (sym e)
-        (⊎-elim (λ old. decided-kept (isRM p) (isAcceptor p) (isMajoritySet p) _ _ (stores-kept p _ _ m stores) i (valOf v) (g .standing l i v value old)) (λ new. new)
+        subst (λ (j : ℕ). DecidedOrDeclinedIn p (setOf (messages p (s′ .hosts leader j .table))) i (valOf v)) (sym e)
+        (⊎-elim (λ old. announced-kept (isRM p) (isAcceptor p) (isMajoritySet p) _ _ (stores-kept p _ _ m stores) i (valOf v) (g .standing l i v value old)) (λ new. new)
         (marks i v value (subst (λ (j : ℕ). stands (s′ .hosts leader j .summary) i v ≡ true) e h)))
     marked k (no n) i v value h = rw (same k n) (g .standing k i v value (rw (same k n) at h))
 
@@ -174,7 +175,7 @@ module _ (p : Plan) (s : System) (g : Tied p s) (role : Role) (k : ℕ) (r : Lef
     pub claim-sends : ((l : ℕ) → messages p (after s role k r (m ∷ []) .hosts leader l .table) ≡ messages p (s .hosts leader l .table))
         → ((l : ℕ) → SummaryKept leader (s .hosts leader l) (after s role k r (m ∷ []) .hosts leader l .summary))
         → Unowned p (messageOf m)
-        → PCNext (isRM p) (isAcceptor p) (isMajoritySet p) (published p s) (published p (after s role k r (m ∷ [])))
+        → WidenedNext (isRM p) (isAcceptor p) (isMajoritySet p) (published p s) (published p (after s role k r (m ∷ [])))
         → Claim p s role k r (sentBy p r)
     claim-sends same stood unowned next =
         claim-sent (
@@ -192,7 +193,7 @@ module _ (p : Plan) (s : System) (g : Tied p s) (role : Role) (k : ℕ) (r : Lef
     pub claim-network : readOf p (r .host .table) ≡ readOf p (s .hosts role k .table) → SummaryKept role (s .hosts role k) (r .host .summary)
         → Claim p s role k r []
     claim-network is stood = (
-      subst (λ (f : Role → ℕ → Reading). PCStep (isRM p) (isAcceptor p) (isMajoritySet p) (published p s) (stateOf f)) readings
+      subst (λ (f : Role → ℕ → Reading). WidenedStep (isRM p) (isAcceptor p) (isMajoritySet p) (published p s) (stateOf f)) readings
           (inr (refl, refl, λ x. (λ h. h, λ h. h))),
       tied-same p s g _ (λ x h. h) nets-quiet (λ l. ap (λ (f : Role → ℕ → Reading). f leader l .held) (sym readings)) summaries
           (λ l b i v o h. h),

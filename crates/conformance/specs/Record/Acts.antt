@@ -45,12 +45,12 @@ use Rattle.conformance.specs.Record.{receives, opens-ballot, proposes, c
 use Rattle.conformance.specs.Record.Steps.{Role, rm, acceptor, leader, roleOf, rmPart, acceptorPart, leaderPart}
 use Rattle.conformance.specs.Record.Steps.{role-rm, role-acceptor, role-leader, Taken, taken}
 
--- a leader takes only 1b and 2b messages
+-- a leader takes only 1b and 2b messages, and a 2a at ballot 0
 received : (box : View) (m : Wire.Message) (change : Change) → receipt box m ≡ accepted change → isReceived m ≡ true
 unfolding receipt
 received box (Phase1a ins bal) change e = absurd (accepted-not-refused e)
 received box (Phase1b ins acc mbal vote) change e = refl
-received box (Phase2a ins bal val) change e = absurd (accepted-not-refused e)
+received box (Phase2a ins bal val) change e = not-false _ (refuseIf-accepted _ _ _ _ e .0)
 received box (Phase2b ins acc bal val) change e = refl
 received box (Decision val) change e = absurd (accepted-not-refused e)
 

@@ -1,7 +1,7 @@
 -- The proofs of Words.antt: each test passes exactly where document 01's sentence holds.
 -- Assumes nothing.
 use Prim.Native.Nat.{ℕ, zero, suc, _+_, _*_, _/_, _%_, _≤_, _<_, suc-le-suc, zero-le}
-use mathlib.Core.Bool.{Bool, true, _&&_, _||_}
+use mathlib.Core.Bool.{Bool, true, _&&_, _||_, false≢true}
 use mathlib.Core.List.{List, [], _∷_, List·Memᴰ}
 use mathlib.Core.Logic.{_⊎_, inl, inr, _↔_}
 use mathlib.Core.Path.{_≡_, refl, sym, _∙_, ap, ap₂}
@@ -15,6 +15,7 @@ use borrow.Author.Tests.{le-leb, lt-leb, leb-true, eq-eqb, ne-eqb, eqb-true, lt-
 use Rattle.message.specs.declared.Plan.{Plan}
 use Rattle.message.specs.declared.Message as Wire
 use Rattle.message.specs.declared.Message.the-variants.{Phase1a, Phase1b, Phase2a, Phase2b, Decision}
+use Rattle.message.specs.declared.Vote.{Vote}
 use Rattle.message.specs.declared.Vote.the-variants.{None, Cast}
 use Rattle.message.specs.Outcome.Laws.{both}
 use Rattle.message.specs.Form.{isValue, isVote, isInRange}
@@ -33,6 +34,9 @@ use Rattle.record.specs.Record.Parts.{inboxOf-with, inboxOf-with-other}
 use Rattle.slots.specs.Table.{slotSize, maxSlots, isTableLength, isTable, messages}
 use Rattle.slots.specs.Table.Holds.{holds-judged}
 use Rattle.matching.specs.Call.{HeldBy}
+use Rattle.matching.specs.Rm.{isDecision}
+use Rattle.matching.specs.Acceptor.{isTaken}
+use Rattle.matching.specs.Leader.{isReceived}
 use Rattle.matching.specs.Call.Laws.{at-member, slot-in-range}
 use Rattle.matching.specs.Theorems.{well-formed}
 use Rattle.conformance.specs.Record.{EventForm, inboxesUpTo}
@@ -284,3 +288,47 @@ table-form p t plan whole = (
   where
     each : isTable p t ≡ true → (m : Wire.Message) → List·Memᴰ m (messages p t) → isInRange p m ≡ true
     each is m h = let (k, at) = at-member (messages p t) m h in slot-in-range p t whole is k m at
+
+pub received-words : (m : Wire.Message)
+    → (isReceived m ≡ true)
+    ↔ (((i a b : ℕ) × (vote : Vote) × (m ≡ Phase1b i a b vote))
+    ⊎ (((i a b v : ℕ) × (m ≡ Phase2b i a b v)) ⊎ ((i v : ℕ) × (m ≡ Phase2a i 0 v))))
+received-words m = (there m, back)
+  where
+    there : (m : Wire.Message) → isReceived m ≡ true
+        → ((i a b : ℕ) × (vote : Vote) × (m ≡ Phase1b i a b vote)) ⊎ (((i a b v : ℕ) × (m ≡ Phase2b i a b v)) ⊎ ((i v : ℕ) × (m ≡ Phase2a i 0 v)))
+    there (Phase1a ins bal) h = absurd (false≢true h)
+    there (Phase1b ins acc mbal vote) h = inl (ins, acc, mbal, vote, refl)
+    there (Phase2a ins bal val) h = inr (inr (ins, val, ap (λ (b : ℕ). Phase2a ins b val) (eqb-true bal 0 h)))
+    there (Phase2b ins acc bal val) h = inr (inl (ins, acc, bal, val, refl))
+    there (Decision val) h = absurd (false≢true h)
+
+    back : ((i a b : ℕ) × (vote : Vote) × (m ≡ Phase1b i a b vote)) ⊎ (((i a b v : ℕ) × (m ≡ Phase2b i a b v)) ⊎ ((i v : ℕ) × (m ≡ Phase2a i 0 v)))
+        → isReceived m ≡ true
+    back (inl (i, a, b, vote, is)) = rw is
+    back (inr (inl (i, a, b, v, is))) = rw is
+    back (inr (inr (i, v, is))) = rw is
+
+pub decision-words : (m : Wire.Message) → (isDecision m ≡ true) ↔ ((v : ℕ) × (m ≡ Decision v))
+decision-words m = (there m, λ (v, is). rw is)
+  where
+    there : (m : Wire.Message) → isDecision m ≡ true → (v : ℕ) × (m ≡ Decision v)
+    there (Phase1a ins bal) h = absurd (false≢true h)
+    there (Phase1b ins acc mbal vote) h = absurd (false≢true h)
+    there (Phase2a ins bal val) h = absurd (false≢true h)
+    there (Phase2b ins acc bal val) h = absurd (false≢true h)
+    there (Decision val) h = (val, refl)
+
+pub taken-words : (m : Wire.Message) → (isTaken m ≡ true) ↔ (((i b : ℕ) × (m ≡ Phase1a i b)) ⊎ ((i b v : ℕ) × (m ≡ Phase2a i b v)))
+taken-words m = (there m, back)
+  where
+    there : (m : Wire.Message) → isTaken m ≡ true → ((i b : ℕ) × (m ≡ Phase1a i b)) ⊎ ((i b v : ℕ) × (m ≡ Phase2a i b v))
+    there (Phase1a ins bal) h = inl (ins, bal, refl)
+    there (Phase1b ins acc mbal vote) h = absurd (false≢true h)
+    there (Phase2a ins bal val) h = inr (ins, bal, val, refl)
+    there (Phase2b ins acc bal val) h = absurd (false≢true h)
+    there (Decision val) h = absurd (false≢true h)
+
+    back : ((i b : ℕ) × (m ≡ Phase1a i b)) ⊎ ((i b v : ℕ) × (m ≡ Phase2a i b v)) → isTaken m ≡ true
+    back (inl (i, b, is)) = rw is
+    back (inr (i, b, v, is)) = rw is

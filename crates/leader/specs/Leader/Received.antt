@@ -5,6 +5,7 @@ use Prim.Native.Nat.{ℕ}
 use mathlib.Core.Bool.{Bool, true, false, not}
 use mathlib.Core.List.{List}
 use mathlib.Core.Path.{_≡_, refl, sym, _∙_}
+use lib.Dec.{eqb}
 use lib.ListN.{length}
 use Rattle.message.specs.declared.Plan.{Plan}
 use Rattle.message.specs.declared.Message.{Message}
@@ -59,12 +60,17 @@ module _ (p : Plan) (isDecided : ℕ → ℕ → Bool) (inbox network e : List �
       go NoRoom e is = absurd (accepted-not-refused is)
 
   taken : (m : Message) → isInRange p m ≡ true → applied p inbox network (receipt box m) .answer ≡ accepted sent → Same (applied p inbox network (receipt box m))
-  unfolding receipt
-  taken (Phase1a ins bal) range is = absurd (accepted-not-refused is)
-  taken (Phase1b ins acc mbal vote) range is = stored (Phase1b ins acc mbal vote) range is
-  taken (Phase2a ins bal val) range is = absurd (accepted-not-refused is)
-  taken (Phase2b ins acc bal val) range is = stored (Phase2b ins acc bal val) range is
-  taken (Decision val) range is = absurd (accepted-not-refused is)
+  unfolding receipt refuseIf
+  taken (Phase1a ins bal) range = λ is. absurd (accepted-not-refused is)
+  taken (Phase1b ins acc mbal vote) range = stored (Phase1b ins acc mbal vote) range
+  taken (Phase2a ins bal val) range = go (not (eqb bal 0))
+    where
+      go : (b : Bool) → applied p inbox network (refuseIf b 9 (receiptStore box (Phase2a ins bal val))) .answer ≡ accepted sent
+          → Same (applied p inbox network (refuseIf b 9 (receiptStore box (Phase2a ins bal val))))
+      go true is = absurd (accepted-not-refused is)
+      go false is = stored (Phase2a ins bal val) range is
+  taken (Phase2b ins acc bal val) range = stored (Phase2b ins acc bal val) range
+  taken (Decision val) range = λ is. absurd (accepted-not-refused is)
 
   pub received-same : kindOf e ≡ 4 → leaderStepBy p isDecided inbox network e .answer ≡ accepted sent → Same (leaderStepBy p isDecided inbox network e)
   unfolding leaderStepBy leaderVerdictBy leaderKind andThen refuseIf

@@ -18,7 +18,7 @@ receipt-changes : (box : View) (m : Message) → Changes IsInbox (receipt box m)
 unfolding receipt receiptStore
 receipt-changes box (Phase1a ins bal) = tt
 receipt-changes box (Phase1b ins acc mbal vote) = changes-sending IsInbox 14 _ _ (λ slot store. tt)
-receipt-changes box (Phase2a ins bal val) = tt
+receipt-changes box (Phase2a ins bal val) = changes-refuseIf IsInbox (not (eqb bal 0)) 9 _ (changes-sending IsInbox 14 _ _ (λ slot store. tt))
 receipt-changes box (Phase2b ins acc bal val) = changes-sending IsInbox 14 _ _ (λ slot store. tt)
 receipt-changes box (Decision val) = tt
 

@@ -1,15 +1,15 @@
 -- The leader's conditions are the source's, read from the set of messages in the inbox.
 --     in-range                         a message of a judged inbox is in range
+--     apart, decision-apart, value-known     messages of different types differ; a value is known by what it is read as
 --     phase2a-seen, seen-phase2a       a 2a of (i, b)
 --     reported-seen, seen-reported     a 1b of (i, b) from an acceptor
 --     voted-seen, seen-voted           a 2b of (i, b, v) from an acceptor
 --     among, quorum-majority, majority-quorum, majority-some     a test that a majority passes
 --     decided-Decided, Decided-decided Decided(i, v)
---     reflects-inbox                   so a leader's test of its inbox reflects that
 -- Assumes nothing.
 use Prim.Native.Nat.{ℕ, zero, suc, _+_, _≤_, _<_, zero-le, suc-le-suc}
-use mathlib.Core.Bool.{Bool, true, false, _&&_, _||_, cond, false≢true}
-use mathlib.Core.List.{List, [], _∷_, List·Memᴰ, List·Memᴰ·head, List·Memᴰ·tail}
+use mathlib.Core.Bool.{Bool, true, false, _&&_, cond, false≢true}
+use mathlib.Core.List.{List, _∷_, List·Memᴰ, List·Memᴰ·head, List·Memᴰ·tail}
 use mathlib.Core.Path.{_≡_, refl, sym, _∙_, ap, ap₂, subst}
 use native.Mathlib.Omega.{arith}
 use lib.Dec.{ltb, leb, eqb}
@@ -23,32 +23,11 @@ use Rattle.message.specs.Form.{isValue, isInRange}
 use Rattle.slots.specs.Table.Holds.{allInRange}
 use Rattle.quorum.specs.Quorum.{countAcceptors, isMajority, isQuorum}
 use Rattle.quorum.specs.Quorum.Laws.{quorum-some}
+use Rattle.inbox.specs.Inbox.Members.{any-member, member-any}
 use Rattle.inbox.specs.Inbox.{any, is1b, is2a, is2b, chosen, isChosen2b, decided}
 use Rattle.paxos_commit.specs.PaxosCommit as Source
 use Rattle.matching.specs.Reading.{isMajoritySet, valOf, balOf, voteValOf, messageOf, setOf}
 use Rattle.matching.specs.Leader.{DecidedIn}
-use Rattle.matching.specs.Leader.Decided.{Reflects}
-
--- some message passes exactly when a member does
-module _ (test : Message → Bool) where
-  any-member : (ms : List Message) → any test ms ≡ true → (m : Message) × List·Memᴰ m ms × (test m ≡ true)
-  unfolding any
-  any-member [] e = absurd (false≢true e)
-  any-member (x ∷ ms) e = go (test x) refl e (any-member ms)
-    where
-      go : (t : Bool) → test x ≡ t → (t || any test ms) ≡ true → (any test ms ≡ true → (m : Message) × List·Memᴰ m ms × (test m ≡ true))
-          → (m : Message) × List·Memᴰ m (x ∷ ms) × (test m ≡ true)
-      go true h e rest = (x, List·Memᴰ·head refl, h)
-      go false h e rest = let r = rest e in (r .0, List·Memᴰ·tail (r .1), r .2)
-
-  or-true : (t : Bool) → (t || true) ≡ true
-  or-true true = refl
-  or-true false = refl
-
-  member-any : (ms : List Message) (m : Message) → List·Memᴰ m ms → test m ≡ true → any test ms ≡ true
-  unfolding any
-  member-any (x ∷ ms) m (List·Memᴰ·head e) h = ap (λ (t : Bool). t || any test ms) (ap test (sym e) ∙ h)
-  member-any (x ∷ ms) m (List·Memᴰ·tail d) h = ap (λ (t : Bool). test x || t) (member-any ms m d h) ∙ or-true (test x)
 
 pub in-range : (p : Plan) (ms : List Message) (m : Message) → allInRange p ms ≡ true → List·Memᴰ m ms → isInRange p m ≡ true
 unfolding allInRange
@@ -75,10 +54,10 @@ decision-tag val = go (eqb val 1)
     go true = refl
     go false = refl
 
-apart : (x y : Source.Message) → x ≡ y → (tag x ≡ tag y → ⊥) → {A : Type 0} → A
+pub apart : (x y : Source.Message) → x ≡ y → (tag x ≡ tag y → ⊥) → {A : Type 0} → A
 apart x y e n = absurd (n (ap tag e))
 
-decision-apart : (val : ℕ) (y : Source.Message) → messageOf (Decision val) ≡ y → (4 ≡ tag y → ⊥) → {A : Type 0} → A
+pub decision-apart : (val : ℕ) (y : Source.Message) → messageOf (Decision val) ≡ y → (4 ≡ tag y → ⊥) → {A : Type 0} → A
 decision-apart val y e n = absurd (n (sym (decision-tag val) ∙ ap tag e))
 
 -- the members that are read as a 2a, a 1b or a 2b
@@ -124,7 +103,7 @@ of-is1b (Phase2b ins acc bal val) i b a h = absurd (false≢true h)
 of-is1b (Decision val) i b a h = absurd (false≢true h)
 
 -- a value in range is 1 or 2, so it is known by what it is read as
-value-known : (v w : ℕ) → isValue v ≡ true → isValue w ≡ true → valOf v ≡ valOf w → v ≡ w
+pub value-known : (v w : ℕ) → isValue v ≡ true → isValue w ≡ true → valOf v ≡ valOf w → v ≡ w
 unfolding isValue
 value-known v w h k e = go (eqb v 1) refl (eqb w 1) refl e
   where
@@ -260,6 +239,3 @@ module _ (p : Plan) (ms : List Message) where
       let q : chosen p ms i b v ≡ true = majority-quorum p (d .1) (d .2) _ (λ ac t. seen-voted ms i b p r v h ac (d .3 ac t)) in
       member-any (isChosen2b p ms i v) ms (Phase2b i (a .0) b v) (member-2b ms i b p r v h (a .0) (d .3 (a .0) (a .1)))
       (and-true (eqb i i) _ (eq-eqb i i refl) (and-true (eqb v v) _ (eq-eqb v v refl) q))
-
-  pub reflects-inbox : allInRange p ms ≡ true → Reflects (decided p ms) Decided
-  reflects-inbox r i v h = (decided-Decided i v, Decided-decided r i v h)

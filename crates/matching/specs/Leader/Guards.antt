@@ -8,15 +8,15 @@
 use Prim.Native.Nat.{ℕ}
 use mathlib.Core.Bool.{Bool, true, false, false≢true}
 use mathlib.Core.List.{List}
-use mathlib.Core.Logic.{_⊎_}
+use mathlib.Core.Logic.{_⊎_, inl, inr}
 use mathlib.Core.Path.{_≡_, refl, sym, _∙_}
 use lib.Dec.{ltb}
 use Rattle.message.specs.declared.Plan.{Plan}
 use Rattle.message.specs.declared.Message as Wire
 use Rattle.message.specs.Outcome.Laws.{both}
-use Rattle.message.specs.Form.{isValue}
 use Rattle.slots.specs.Table.Holds.{allInRange}
 use Rattle.quorum.specs.Quorum.{isQuorum}
+use Rattle.summary.specs.Summary.Laws.{is-value}
 use Rattle.inbox.specs.Inbox.{any, is1b, is2a, highestReport, proposal, forAll, forSome}
 use Rattle.paxos_commit.specs.PaxosCommit as Source
 use Rattle.paxos_commit.specs.PaxosCommit.{State}
@@ -85,24 +85,16 @@ module _ (p : Plan) (ms : List Wire.Message) (i b : ℕ) where
     )
 
 module _ (p : Plan) (isDecided : ℕ → ℕ → Bool) (Decided : ℕ → Source.Val → Type 0) (reflects : Reflects isDecided Decided) (s : State) where
-  one : isValue 1 ≡ true
-  unfolding isValue
-  one = refl
-
-  two : isValue 2 ≡ true
-  unfolding isValue
-  two = refl
-
   pub commit-acts : forAll (p .rms) (λ i. isDecided i 1) ≡ true → (s′ : State) → Joins p Source.Commit s s′ → CommitBy p Decided s s′
-  commit-acts g s′ j = ((λ rm k. reflects rm 1 one .0 (forAll-all _ (p .rms) g rm k)), j .sends, j .rm-same, j .acceptor-same)
+  commit-acts g s′ j = ((λ rm k. reflects rm 1 (is-value 1 (inl refl)) .0 (forAll-all _ (p .rms) g rm k)), j .sends, j .rm-same, j .acceptor-same)
 
   pub abort-acts : forSome (p .rms) (λ i. isDecided i 2) ≡ true → (s′ : State) → Joins p Source.Abort s s′ → AbortBy p Decided s s′
   abort-acts g s′ j =
       let d = forSome-some _ (p .rms) g in
-      ((d .0, d .1, reflects (d .0) 2 two .0 (d .2)), j .sends, j .rm-same, j .acceptor-same)
+      ((d .0, d .1, reflects (d .0) 2 (is-value 2 (inr refl)) .0 (d .2)), j .sends, j .rm-same, j .acceptor-same)
 
   pub commit-test : Enabled p (CommitBy p Decided) s → forAll (p .rms) (λ i. isDecided i 1) ≡ true
-  commit-test a = all-forAll _ (p .rms) (λ rm k. reflects rm 1 one .1 (a .1 .0 rm k))
+  commit-test a = all-forAll _ (p .rms) (λ rm k. reflects rm 1 (is-value 1 (inl refl)) .1 (a .1 .0 rm k))
 
   pub abort-test : Enabled p (AbortBy p Decided) s → forSome (p .rms) (λ i. isDecided i 2) ≡ true
-  abort-test a = let d = a .1 .0 in some-forSome _ (p .rms) (d .0) (d .1) (reflects (d .0) 2 two .1 (d .2))
+  abort-test a = let d = a .1 .0 in some-forSome _ (p .rms) (d .0) (d .1) (reflects (d .0) 2 (is-value 2 (inr refl)) .1 (d .2))

@@ -193,8 +193,11 @@ module _ (p : Plan) (isDecided : ℕ → ℕ → Bool) (Decided : ℕ → Val �
       unfolding Ruled receiptStore
       store-ruled = ruled-sending 14 p inbox m _ end _ (λ n. inl (kind, (m, at, n))) room (λ slot store q. tt)
 
+      stored-ruled : Ruled (receiptStore (viewTable p inbox) m) Rows10
+      stored-ruled = past-send _ store-ruled
+
       taken-ruled : isReceived m ≡ true → Ruled (receiptStore (viewTable p inbox) m) Rows9
-      taken-ruled received = ruled-skip 9 _ _ takes _ (past-send _ store-ruled)
+      taken-ruled received = ruled-skip 9 _ _ takes _ stored-ruled
         where
           takes : ((kindOf e ≡ 4) × SlotHolds p network e (λ m. isReceived m ≡ false)) × Unit {1} → ⊥
           takes ((four, (x, is, other)), u) = false≢true (sym other ∙ ap isReceived (same x is) ∙ received)
@@ -203,7 +206,10 @@ module _ (p : Plan) (isDecided : ℕ → ℕ → Bool) (Decided : ℕ → Val �
     unfolding Ruled receipt
     receipt-ruled (Phase1a ins bal) at = here (refl, ((kind, (_, at, refl)), tt))
     receipt-ruled (Phase1b ins acc mbal vote) at = taken-ruled _ at refl
-    receipt-ruled (Phase2a ins bal val) at = here (refl, ((kind, (_, at, refl)), tt))
+    receipt-ruled (Phase2a ins bal val) at =
+        ruled-row _ 9 _ _ _ (λ later. (kind, (_, at, not-true _ later)))
+        (λ first (four, (x, is, other)). false≢true (sym other ∙ ap isReceived (same _ at x is) ∙ not-false _ first))
+        (λ first. stored-ruled (Phase2a ins bal val) at)
     receipt-ruled (Phase2b ins acc bal val) at = taken-ruled _ at refl
     receipt-ruled (Decision val) at = here (refl, ((kind, (_, at, refl)), tt))
 

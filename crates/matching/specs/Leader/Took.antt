@@ -66,7 +66,7 @@ pub receipt-stores : (box : View) (m : Wire.Message) (change : Change) → recei
 unfolding receipt
 receipt-stores box (Phase1a ins bal) change e = absurd (accepted-not-refused e)
 receipt-stores box (Phase1b ins acc mbal vote) change e = e
-receipt-stores box (Phase2a ins bal val) change e = absurd (accepted-not-refused e)
+receipt-stores box (Phase2a ins bal val) change e = refuseIf-accepted _ _ _ _ e .1
 receipt-stores box (Phase2b ins acc bal val) change e = e
 receipt-stores box (Decision val) change e = absurd (accepted-not-refused e)
 

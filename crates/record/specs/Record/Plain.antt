@@ -1,4 +1,4 @@
--- The event call beside the call of document 01, which has no summary.
+-- The event call beside the call without a summary.
 --     forAll-ext, forSome-ext         tests that agree below a count
 --     Agree, leader-ext, role-ext     where two readings of Decided agree, a leader's step and a role's step are the same
 --     lent-plain                      with a sound summary rows 1 to 6 and 20 are rows 1 to 6
@@ -122,7 +122,7 @@ module _ (p : Plan) (t : Tables) (e : List ℕ) where
       go (accepted a) false = refl
       go (accepted a) true = role-with (byInbox p t) summary
 
-  -- row 20 does not apply, and the bits are what is Decided
+  -- row 20 does not apply, and each bit is what its inbox says
   module _ (right : isSummary (p .rms * p .leaders) (t .summary) ≡ true)
       (same : (l : ℕ) → l < p .leaders → (i v : ℕ) → i < p .rms → (v ≡ 1) ⊎ (v ≡ 2) → bySummary p t l i v ≡ byInbox p t l i v) where
     -- the event call: as without a summary, and then marked

@@ -16,8 +16,8 @@ use Rattle.message.specs.declared.Message as Wire
 use Rattle.message.specs.Outcome.{Outcome}
 use Rattle.change.specs.declared.Sent.{Sent}
 use Rattle.event.specs.Event.{whoOf, highOf, lowOf}
-use Rattle.paxos_commit.specs.PaxosCommit.{Val, Message, phase1a, phase1b, phase2a, phase2b, Commit, Abort, Send, UnchangedMsgs, Decided}
-use Rattle.paxos_commit.specs.PaxosCommit.Laws.{decided-kept}
+use Rattle.paxos_commit.specs.PaxosCommit.{Val, Message, phase1a, phase1b, phase2a, phase2b, Commit, Abort, Send, UnchangedMsgs}
+use Rattle.paxos_commit.specs.Widened.Laws.{of-prepared, announced-kept}
 use Rattle.paxos_commit.specs.PaxosCommit.Safety.Rm.{inv-rm-prepare, inv-rm-choose-to-abort, inv-rm-rcv-commit, inv-rm-rcv-abort}
 use Rattle.paxos_commit.specs.PaxosCommit.Safety.Leader.{inv-phase1a, inv-phase2a, inv-decide-commit, inv-decide-abort}
 use Rattle.paxos_commit.specs.PaxosCommit.Safety.Acceptor.{inv-phase1b, inv-phase2b}
@@ -29,7 +29,7 @@ use Rattle.matching.specs.Reading.{isRM, isAcceptor, isMajoritySet, messageOf}
 use Rattle.matching.specs.Theorems.{majorities-meet}
 use Rattle.matching.specs.Call.{Stores}
 use Rattle.matching.specs.Call.Laws.{member-at}
-use Rattle.matching.specs.Leader.{Phase2aAction, InboxFull}
+use Rattle.matching.specs.Leader.{Phase2aAction, DecidedOrDeclinedIn, InboxFull}
 use Rattle.conformance.specs.Record.{recordState, ownInbox, Acted}
 use Rattle.conformance.specs.Record.{prepares, chooses-to-abort, receives-commit, receives-abort, promises, casts-vote, receives, opens-ballot}
 use Rattle.conformance.specs.Record.{proposes, commits, aborts}
@@ -71,11 +71,8 @@ module _ (p : Plan) (t : Tables) (e : List ℕ) (answer : Outcome Sent) (t′ : 
   heard : whoOf e < p .leaders → (x : Message) → seenBy p t (whoOf e) x → sentIn p t x
   heard = g .inboxes (whoOf e)
 
-  abbrev decided : (Message → Type 0) → ℕ → Val → Type 0
-  decided = Decided (isRM p) (isAcceptor p) (isMajoritySet p)
-
-  chosen : whoOf e < p .leaders → (i : ℕ) (v : Val) → decided (seenBy p t (whoOf e)) i v → decided (sentIn p t) i v
-  chosen member = decided-kept (isRM p) (isAcceptor p) (isMajoritySet p) _ _ (heard member)
+  announced : whoOf e < p .leaders → (i : ℕ) (v : Val) → DecidedOrDeclinedIn p (seenBy p t (whoOf e)) i v → DecidedOrDeclinedIn p (sentIn p t) i v
+  announced member = announced-kept (isRM p) (isAcceptor p) (isMajoritySet p) _ _ (heard member)
 
   -- Phase2a: the leader has no 2a for the instance and its ballot, so nobody has sent one, and no other leader has to have it
   grounded-proposes : whoOf e < p .leaders → isRM p (highOf e) → owns p (whoOf e) (lowOf e) ≡ true
@@ -125,12 +122,13 @@ module _ (p : Plan) (t : Tables) (e : List ℕ) (answer : Outcome Sent) (t′ : 
       grounded-proposes member rm owned acts _ is box stores (box-whole p t e (g .sound) member _ (λ full. room (inr (kind, full))) box stores)
       (same-inboxes same)
   grounded-acted room (commits kind member acts sent same) =
-      sends _ (acts .1) (inv-decide-commit (g .inv) (recordState p t′) (decided (seenBy p t (whoOf e))) (λ i. chosen member i _)
-      (commit-seen p t (g .standing) (whoOf e) member _ _ acts))
+      sends _ (acts .1) (inv-decide-commit (g .inv) (recordState p t′) (DecidedOrDeclinedIn p (seenBy p t (whoOf e)))
+      (λ i d. of-prepared (isRM p) (isAcceptor p) (isMajoritySet p) (sentIn p t) i (announced member i _ d))
+      (commit-seen p t (g .sound) (g .standing) (whoOf e) member _ _ acts))
       (same-inboxes same)
       (unowned-other p _ refl)
   grounded-acted room (aborts kind member acts sent same) =
-      sends _ (acts .1) (inv-decide-abort (g .inv) (recordState p t′) (decided (seenBy p t (whoOf e))) (λ i. chosen member i _)
-      (abort-seen p t (g .standing) (whoOf e) member _ _ acts))
+      sends _ (acts .1) (inv-decide-abort (g .inv) (recordState p t′) (DecidedOrDeclinedIn p (seenBy p t (whoOf e))) (λ i. announced member i _)
+      (abort-seen p t (g .sound) (g .standing) (whoOf e) member _ _ acts))
       (same-inboxes same)
       (unowned-other p _ refl)

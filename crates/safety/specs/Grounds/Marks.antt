@@ -1,9 +1,9 @@
 -- The summary of a record that was opened and used: each leader's bytes are what its inbox says (`Standing` of Grounds.antt).
 --     unheard-zeros               inboxes of zeros hold no message
 --     standing-zeros              so it is at first
---     commit-seen, abort-seen     what stands there is decided in the inbox
+--     commit-seen, abort-seen     what stands there is decided in the inbox, or declined
 --     box-whole                   an inbox that gains a message for which it has room keeps its length
---     standing-acted              each case of `Acted` keeps it: a receipt marks what its message decides, the own 2a decides nothing
+--     standing-acted              each case of `Acted` keeps it: a receipt marks what its message decides or declines, the own 2a does neither
 -- Assumes nothing.
 use Prim.Native.Nat.{ℕ, _*_, _<_}
 use mathlib.Core.Bool.{true, false}
@@ -19,14 +19,16 @@ use Rattle.message.specs.declared.Message.the-variants.{Phase2a}
 use Rattle.message.specs.Outcome.{Outcome}
 use Rattle.message.specs.Plan.Laws.{plan-bounds}
 use Rattle.slots.specs.Table.{messages}
+use Rattle.slots.specs.Table.Holds.{holds-judged}
 use Rattle.change.specs.declared.Sent.{Sent}
-use Rattle.event.specs.Event.{whoOf, slotNumber}
+use Rattle.event.specs.Event.{whoOf, lowOf, slotNumber}
 use Rattle.inbox.specs.Inbox.{decided}
 use Rattle.summary.specs.Summary.{marked}
-use Rattle.summary.specs.Summary.Laws.{summary-length, marked-length}
+use Rattle.summary.specs.Summary.Laws.{summary-length, is-value, later-declines, marked-length}
 use Rattle.summary.specs.Summary.Standing.{Joins, isVoteFor, Says, says-zeros, stands-says, says-other, marked-says}
 use Rattle.paxos_commit.specs.PaxosCommit.{State}
 use Rattle.leader.specs.Leader.{isSummary, stands}
+use Rattle.phase2a.specs.Phase2a.Laws.{owns-above}
 use Rattle.record.specs.Record.{Tables, inboxSize, inboxOf, withInbox, zeroed, summaryOf}
 use Rattle.record.specs.Record.Laws.{Sound, inbox-whole}
 use Rattle.record.specs.Record.Parts.{length-inboxOf, inboxOf-with, inboxOf-with-other, with-own, zeros-inboxOf}
@@ -35,9 +37,9 @@ use Rattle.matching.specs.Reading.{valOf}
 use Rattle.matching.specs.Call.{HasRoom, Stores}
 use Rattle.matching.specs.Call.Laws.{slot-in-range}
 use Rattle.matching.specs.Acceptor.{InSlot}
-use Rattle.matching.specs.Leader.{CommitBy, AbortBy, DecidedIn, CommitAction, AbortAction, InboxFull}
+use Rattle.matching.specs.Leader.{CommitBy, AbortBy, DecidedOrDeclinedIn, CommitAction, AbortAction, InboxFull}
 use Rattle.matching.specs.Leader.Decided.{DecidedBy}
-use Rattle.matching.specs.Leader.Conditions.{decided-Decided}
+use Rattle.matching.specs.Leader.Declined.{reflects-inbox}
 use Rattle.conformance.specs.Record.{ownInbox, ownSummary, heard, Acted}
 use Rattle.conformance.specs.Record.{prepares, chooses-to-abort, receives-commit, receives-abort, promises, casts-vote, receives, opens-ballot}
 use Rattle.conformance.specs.Record.{proposes, commits, aborts}
@@ -59,22 +61,24 @@ module _ (p : Plan) (t : Tables) where
   standing-zeros right inboxes summary =
       record { right = right; says = λ l h. rw (unheard-zeros inboxes l h, zeros-part (t .summary) summary l h) (says-zeros p (inboxSize p (zeroed (t .summary)))) }
 
--- what stands in leader l's bytes is decided by what it has received
-module _ (p : Plan) (t : Tables) (g : Standing p t) (l : ℕ) (member : l < p .leaders) where
-  seen-decided : (i v : ℕ) → i < p .rms → (v ≡ 1) ⊎ (v ≡ 2) → stands (summaryOf p t l) i v ≡ true → DecidedIn p (seenBy p t l) i (valOf v)
-  seen-decided i v rm value is =
-      decided-Decided p (messages p (inboxOf p (t .inboxes) l)) i v (sym (stands-says p _ _ (g .says l member) i v rm value) ∙ is)
+-- what stands in leader l's bytes is decided or declined by what it has received
+module _ (p : Plan) (t : Tables) (sound : Sound p t) (g : Standing p t) (l : ℕ) (member : l < p .leaders) where
+  seen-announced : (i v : ℕ) → i < p .rms → (v ≡ 1) ⊎ (v ≡ 2) → stands (summaryOf p t l) i v ≡ true → DecidedOrDeclinedIn p (seenBy p t l) i (valOf v)
+  seen-announced i v rm value is =
+      let range = holds-judged p _ (inbox-whole p t sound l member) (sound .inboxes-ordered l member) .inRange in
+      reflects-inbox p (messages p (inboxOf p (t .inboxes) l)) range i v (is-value v value) .0
+      (sym (stands-says p _ _ (g .says l member) i v rm value) ∙ is)
 
   module _ (s s′ : State) where
     pub commit-seen : CommitBy p (DecidedBy (stands (summaryOf p t l))) s s′ → CommitAction p (seenBy p t l) s s′
-    commit-seen (all, sent, row, same) = (λ i rm. seen-decided i 1 rm (inl refl) (all i rm), sent, row, same)
+    commit-seen (all, sent, row, same) = (λ i rm. seen-announced i 1 rm (inl refl) (all i rm), sent, row, same)
 
     pub abort-seen : AbortBy p (DecidedBy (stands (summaryOf p t l))) s s′ → AbortAction p (seenBy p t l) s s′
-    abort-seen ((i, rm, is), sent, row, same) = ((i, rm, seen-decided i 2 rm (inr refl) is), sent, row, same)
+    abort-seen ((i, rm, is), sent, row, same) = ((i, rm, seen-announced i 2 rm (inr refl) is), sent, row, same)
 
 -- what a table holds after a message was stored there
 stores-joins : (p : Plan) (table table′ : List ℕ) (m : Message) → Stores p table m table′ → Joins (messages p table) (messages p table′) m
-stores-joins p table table′ m (inl (there, same)) = inr (ap (messages p) same)
+stores-joins p table table′ m (inl (there, same)) = inr (ap (messages p) same, there)
 stores-joins p table table′ m (inr (absent, gained, form)) = inl gained
 
 -- a 2a is no vote
@@ -134,12 +138,12 @@ module _ (p : Plan) (t : Tables) (e : List ℕ) (answer : Outcome Sent) (t′ : 
         record { right = right; says = rw (i, b) (says-with own (marked-length _ (ownSummary p t e) m ∙ own-whole) new) }
 
     -- the own 2a
-    proposal-kept : (ins bal val : ℕ) → Stores p (ownInbox p t e) (Phase2a ins bal val) box
+    proposal-kept : (ins bal val : ℕ) → 0 < bal → Stores p (ownInbox p t e) (Phase2a ins bal val) box
         → {u : Tables} → t′ ≡ u → u .inboxes ≡ withInbox p (t .inboxes) (whoOf e) box → u .summary ≡ t .summary → Standing p t′
-    proposal-kept ins bal val stores same inboxes summary =
+    proposal-kept ins bal val above stores same inboxes summary =
         let new =
         says-other p (messages p (ownInbox p t e)) (messages p box) (ownSummary p t e) (g .says (whoOf e) member) (Phase2a ins bal val)
-        (stores-joins p _ box (Phase2a ins bal val) stores) (no-vote ins bal val) in
+        (stores-joins p _ box (Phase2a ins bal val) stores) (no-vote ins bal val) (λ i. later-declines i ins bal val above) in
         let i = ap (λ (u : Tables). u .inboxes) same ∙ inboxes in
         let b = ap (λ (u : Tables). u .summary) same ∙ summary ∙ sym (with-own p (t .summary) (whoOf e)) in
         record { right = right; says = rw (i, b) (says-with (ownSummary p t e) own-whole new) }
@@ -155,6 +159,7 @@ module _ (p : Plan) (t : Tables) (e : List ℕ) (answer : Outcome Sent) (t′ : 
       marks member box (box-whole p t e s member m (λ full. room (inl (kind, (m, slot, full)))) box stores) m slot stores same
   standing-acted room (opens-ballot kind member rm owned acts sent same) = quiet same refl refl
   standing-acted room (proposes kind member rm owned acts is sent box stores same) =
-      proposal-kept member box (box-whole p t e s member _ (λ full. room (inr (kind, full))) box stores) _ _ _ stores same refl refl
+      proposal-kept member box (box-whole p t e s member _ (λ full. room (inr (kind, full))) box stores) _ _ _
+      (owns-above p (lowOf e) (whoOf e) owned) stores same refl refl
   standing-acted room (commits kind member acts sent same) = quiet same refl refl
   standing-acted room (aborts kind member acts sent same) = quiet same refl refl

@@ -1,7 +1,9 @@
--- Each event call is a step of module PaxosCommit as published, its conditions read from msgs: what a leader reads from its inbox,
--- and from its bytes of the summary, is so in N.
---     ActsOrReceives, NextOrStays     an action of PCNext, or a receipt
---     published-action    where an event call is accepted, its `Action` is an action of PCNext, a receipt apart
+-- Each event call is a step of module PaxosCommit as published, for kind 8 with Decide widened, its conditions read from msgs: what a leader reads
+-- from its inbox, and from its bytes of the summary, is so in N.
+--     NextByKind          an action of PCNext, or for kind 8 of Decide widened
+--     next-widened, next-published     so it is one of the widened module, and of the printed one if the kind is not 8
+--     ActsOrReceives, NextOrStays     that, or a receipt
+--     published-action    where an event call is accepted, its `Action` is such an action, a receipt apart
 --     published-acted     so the call is, and a receipt leaves W, Q and N
 -- Assumes nothing.
 use Prim.Native.Nat.{ℕ, _<_}
@@ -15,6 +17,7 @@ use Rattle.message.specs.Outcome.{Outcome}
 use Rattle.change.specs.declared.Sent.{Sent}
 use Rattle.event.specs.Event.{kindOf, whoOf, highOf, lowOf}
 use Rattle.paxos_commit.specs.PaxosCommit.{State, Message, Commit, Abort, UnchangedMsgs, PCNext, Phase2a, Phase1b, Phase2b}
+use Rattle.paxos_commit.specs.Widened.{WidenedDecide, WidenedNext}
 use Rattle.paxos_commit.specs.PaxosCommit.Safety.Leader.{phase2a-of-part, decide-commit-of-part, decide-abort-of-part}
 use Rattle.leader.specs.Leader.{owns}
 use Rattle.phase2a.specs.Phase2a.Laws.{owns-above}
@@ -31,19 +34,32 @@ use Rattle.conformance.specs.Record.{proposes, commits, aborts}
 use Rattle.safety.specs.Grounds.{sentIn, seenBy, Unchanged, Grounded}
 use Rattle.safety.specs.Grounds.Marks.{commit-seen, abort-seen}
 
--- an action of PCNext, of a kind that is not the receipt's; or a receipt
+-- kind 8 may send Abort where a resource manager has declined (document 02, Paper 6)
+abbrev pub NextByKind : Plan → List ℕ → State → State → Type 0
+NextByKind p e s s′ =
+    PCNext (isRM p) (isAcceptor p) (isMajoritySet p) s s′ ⊎ ((kindOf e ≡ 8) × WidenedDecide (isRM p) (isAcceptor p) (isMajoritySet p) s s′)
+
+pub next-widened : (p : Plan) (e : List ℕ) (s s′ : State) → NextByKind p e s s′ → WidenedNext (isRM p) (isAcceptor p) (isMajoritySet p) s s′
+next-widened p e s s′ (inl next) = inl next
+next-widened p e s s′ (inr (kind, decides)) = inr decides
+
+pub next-published : (p : Plan) (e : List ℕ) (s s′ : State) → (kindOf e ≡ 8 → ⊥) → NextByKind p e s s′ → PCNext (isRM p) (isAcceptor p) (isMajoritySet p) s s′
+next-published p e s s′ other (inl next) = next
+next-published p e s s′ other (inr (kind, decides)) = absurd (other kind)
+
+-- such an action, of a kind that is not the receipt's; or a receipt
 abbrev pub ActsOrReceives : Plan → Tables → List ℕ → Tables → Type 0
 ActsOrReceives p t e t′ =
-    ((kindOf e ≡ 4 → ⊥) × PCNext (isRM p) (isAcceptor p) (isMajoritySet p) (recordState p t) (recordState p t′))
+    ((kindOf e ≡ 4 → ⊥) × NextByKind p e (recordState p t) (recordState p t′))
     ⊎ ((kindOf e ≡ 4) × Unchanged t t′)
 
 pub unchanged-of : (t : Tables) {t′ : Tables} {inboxes summary : List ℕ} → t′ ≡ withSummary (withInboxes t inboxes) summary → Unchanged t t′
 unchanged-of t same = (ap (λ (u : Tables). u .states) same, ap (λ (u : Tables). u .votes) same, ap (λ (u : Tables). u .network) same)
 
--- an action of PCNext, of a kind that is not the receipt's, to a state s′; or a receipt, by which the variables stay
+-- to a state s′; by a receipt the variables stay
 abbrev pub NextOrStays : Plan → Tables → List ℕ → State → Type 0
 NextOrStays p t e s′ =
-    ((kindOf e ≡ 4 → ⊥) × PCNext (isRM p) (isAcceptor p) (isMajoritySet p) (recordState p t) s′)
+    ((kindOf e ≡ 4 → ⊥) × NextByKind p e (recordState p t) s′)
     ⊎ ((kindOf e ≡ 4)
     × (s′ .rmState ≡ recordState p t .rmState)
     × (s′ .aState ≡ recordState p t .aState)
@@ -64,7 +80,7 @@ module _ (p : Plan) (t : Tables) (e : List ℕ) (g : Grounded p t) where
         acts
 
     acting : {k : ℕ} → kindOf e ≡ k → (k ≡ 4 → ⊥) → PCNext (isRM p) (isAcceptor p) (isMajoritySet p) (recordState p t) s′ → NextOrStays p t e s′
-    acting kind other next = inl (λ four. other (sym kind ∙ four), next)
+    acting kind other next = inl (λ four. other (sym kind ∙ four), inl next)
 
     taken : (SlotHolds p (t .network) e (λ m. messageOf m ≡ Commit) × RMRcvCommitMsg p (whoOf e) (recordState p t) s′)
         ⊎ (SlotHolds p (t .network) e (λ m. messageOf m ≡ Abort) × RMRcvAbortMsg p (whoOf e) (recordState p t) s′)
@@ -95,9 +111,13 @@ module _ (p : Plan) (t : Tables) (e : List ℕ) (g : Grounded p t) where
         acting kind (λ x. omega arith)
         (inr (inl (lowOf e, highOf e, rm, owns-above p (lowOf e) (whoOf e) owned, inr (published-2a member owned (a .kind-6 kind)))))
     published-action (commits kind member acts sent same) a =
-        acting kind (λ x. omega arith) (inr (inr (inl (decide-commit-of-part (g .inv) _ (heard member) s′ (commit-seen p t (g .standing) (whoOf e) member _ _ (a .kind-7 kind))))))
+        acting kind (λ x. omega arith)
+        (inr (inr (inl (decide-commit-of-part (g .inv) _ (heard member) s′ (commit-seen p t (g .sound) (g .standing) (whoOf e) member _ _ (a .kind-7 kind))))))
     published-action (aborts kind member acts sent same) a =
-        acting kind (λ x. omega arith) (inr (inr (inl (decide-abort-of-part (g .inv) _ (heard member) s′ (abort-seen p t (g .standing) (whoOf e) member _ _ (a .kind-8 kind))))))
+        inl (
+          λ four. omega arith,
+          inr (kind, decide-abort-of-part (g .inv) _ (heard member) s′ (abort-seen p t (g .sound) (g .standing) (whoOf e) member _ _ (a .kind-8 kind))),
+        )
 
   pub published-acted : {answer : Outcome Sent} {t′ : Tables} → Acted p t e answer t′ → ActsOrReceives p t e t′
   published-acted {answer} {t′} acted =

@@ -4,7 +4,8 @@
 --     used-event             so it stays; standing-event: and its summary true
 --     path-event, agreed-used, not-contradicted-event     the three claims of demand 3
 --     length-event           W keeps its length
---     published-event        an accepted call is an action of PCNext, or a receipt; kept-event: a refused one leaves W, Q and N
+--     published-event        an accepted call is an action of PCNext, for kind 8 of Decide widened, or a receipt; kept-event: a refused one leaves W,
+--                            Q and N
 --     action-event           so is every step that the accepted event's `Action` allows
 --     slot-event             what stands in a slot of N stays there; on any tables
 -- Assumes nothing.

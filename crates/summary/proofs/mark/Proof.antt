@@ -21,14 +21,20 @@ returns-2 c =
     let at-mark = c .before .before in
     mark-held _ _ _ _ (at-mark .before .before .before .before .before .message-at .ensures) _ (at-mark .before .before .before .answer .given .1) _ (at-mark .mark-message .ensures)
 
+message-at-requires : tie.Need-message-at-requires
+message-at-requires c κs = tt
+
+mark-message-requires : tie.Need-mark-message-requires
+mark-message-requires c κs = tt
+
 pub mark-spec : {M : Type 1} → statement M
 mark-spec =
     tie.close
     (tie.spec
-    (λ c κs. tt)
+    message-at-requires
     enum-known-answer
     enum-told
     returns
-    (λ c κs. tt)
+    mark-message-requires
     same-length
     returns-2)

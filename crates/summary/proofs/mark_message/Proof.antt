@@ -10,14 +10,20 @@ enum-told c = search needs
 enum-told-2 : tie.Need-enum-told-2
 enum-told-2 c = search needs
 
-enum-told-3 : tie.Need-enum-told-3
-enum-told-3 c = search needs
-
 enum-known-m : tie.Need-enum-known-m
 enum-known-m c = search needs
 
-enum-told-4 : tie.Need-enum-told-4
-enum-told-4 c = search needs
+mark-decline-requires : tie.Need-mark-decline-requires
+mark-decline-requires c κs = tt
+
+enum-known-m-2 : tie.Need-enum-known-m-2
+enum-known-m-2 c = search needs
+
+mark-vote-requires : tie.Need-mark-vote-requires
+mark-vote-requires c κs = tt
+
+enum-told-3 : tie.Need-enum-told-3
+enum-told-3 c = search needs
 
 returns : tie.Need-returns
 unfolding marked
@@ -27,19 +33,23 @@ returns-2 : tie.Need-returns-2
 unfolding marked
 returns-2 c = rw (c .enum-told2 .given .1)
 
-returns-3 : tie.Need-returns-3
-unfolding marked
-returns-3 c = rw (c .enum-told3 .given .1)
-
 same-length : tie.Need-same-length
 same-length c = search needs
 
+-- a 2a
+returns-3 : tie.Need-returns-3
+returns-3 c = let at-mark = c .before .before in rw (at-mark .before .before .before .m .given .1) (at-mark .mark-decline .ensures _)
+
+same-length-2 : tie.Need-same-length-2
+same-length-2 c = search needs
+
+-- a 2b
 returns-4 : tie.Need-returns-4
-returns-4 c = let at-mark = c .before .before in rw (at-mark .before .before .before .m .given .1) (at-mark .mark-vote .ensures _ _)
+returns-4 c = let at-mark = c .before .before in rw (at-mark .before .before .before .m2 .given .1) (at-mark .mark-vote .ensures _ _)
 
 returns-5 : tie.Need-returns-5
 unfolding marked
-returns-5 c = rw (c .enum-told4 .given .1)
+returns-5 c = rw (c .enum-told3 .given .1)
 
 pub mark-message-spec : {M : Type 1} → statement M
 mark-message-spec =
@@ -47,13 +57,15 @@ mark-message-spec =
     (tie.spec
     enum-told
     enum-told-2
-    enum-told-3
     enum-known-m
-    (λ c κs. tt)
-    enum-told-4
+    mark-decline-requires
+    enum-known-m-2
+    mark-vote-requires
+    enum-told-3
     returns
     returns-2
-    returns-3
     same-length
+    returns-3
+    same-length-2
     returns-4
     returns-5)

@@ -41,18 +41,33 @@ returns-3 c =
     mark-set _ _ _ _ _ (at-byte .byte-at .ensures) _ (at-bit .bit-of .ensures) _ (at-new .insert-bit .ensures)
     (passed (at-decided .is-decided .ensures) (at-if .if2 .left)) _ (at-set .set-byte .ensures)
 
+byte-at-requires : tie.Need-byte-at-requires
+byte-at-requires c κs = tt
+
+bit-of-requires : tie.Need-bit-of-requires
+bit-of-requires c κs = tt
+
+insert-bit-requires : tie.Need-insert-bit-requires
+insert-bit-requires c κs = tt
+
+is-decided-requires : tie.Need-is-decided-requires
+is-decided-requires c κs = tt
+
+set-byte-requires : tie.Need-set-byte-requires
+set-byte-requires c κs = tt
+
 pub mark-vote-spec : {M : Type 1} → statement M
 mark-vote-spec =
     tie.close
     (tie.spec
-    (λ c κs. tt)
-    (λ c κs. tt)
-    (λ c κs. tt)
+    byte-at-requires
+    bit-of-requires
+    insert-bit-requires
     same-length
     returns
-    (λ c κs. tt)
+    is-decided-requires
     same-length-2
     returns-2
-    (λ c κs. tt)
+    set-byte-requires
     same-length-3
     returns-3)

@@ -1,24 +1,24 @@
 -- What a summary that follows its inbox says.
 --     Joins                     a message joins an inbox, or leaves it as it was, being there already
 --     isVoteFor                 a 2b of an instance and value
---     any-joined                a test of the messages and the one that joins
 --     decided-kept              what is decided stays decided
 --     decided-other             a message that is no 2b of (i, v) leaves what is decided of (i, v)
---     Says, stands-says         each byte is what the inbox says, and then each bit is what is decided
+--     Says, stands-says         each byte is what the inbox says, and then each bit is what may be announced
 --     says-zeros, standing-most     so it is of zeros with no message; no byte is above 3
---     marked-says, says-other   a receipt marks what its message decides, and a message that is no 2b needs no mark
+--     Gains, gains-2a, gains-2b     what a receipt changes of what may be announced is the bit that it marks
+--     marked-says, says-other   so a receipt keeps the summary true, and a message that is no 2b and no decline needs no mark
 -- Assumes nothing.
 use Prim.Native.Nat.{ℕ, zero, suc, _+_, _-_, _<_, _≤_}
-use mathlib.Core.Bool.{Bool, true, false, _&&_, _||_, cond, or-assoc, or-false, or-true, false≢true}
-use mathlib.Core.List.{List, [], _∷_, _++_}
+use mathlib.Core.Bool.{Bool, true, false, _&&_, _||_, cond, and-false, or-false, or-true, false≢true}
+use mathlib.Core.List.{List, [], _∷_, _++_, List·Memᴰ}
 use mathlib.Core.Logic.{_⊎_, inl, inr}
 use mathlib.Core.Path.{_≡_, refl, sym, _∙_, ap, ap₂}
 use native.Mathlib.Decide.{ℕ-discrete}
 use native.Mathlib.Omega.{arith}
 use lib.Dec.{eqb}
-use lib.ListN.{length, getD, set, replicate}
+use lib.ListN.{length, getD, replicate}
 use lib.Seq.{getD-set-same, getD-set-other}
-use borrow.Author.Tests.{eq-eqb, ne-eqb}
+use borrow.Author.Tests.{eq-eqb, ne-eqb, eqb-true}
 use Rattle.message.specs.declared.Plan.{Plan}
 use Rattle.message.specs.declared.Message.{Message}
 use Rattle.message.specs.declared.Message.the-variants.{Phase1a, Phase1b, Phase2a, Phase2b, Decision}
@@ -28,12 +28,13 @@ use Rattle.quorum.specs.Quorum.{isQuorum}
 use Rattle.quorum.specs.Quorum.Laws.{quorum-ext, quorum-apart}
 use Rattle.quorum.specs.Mask.{hasBit, insertBit, join}
 use Rattle.inbox.specs.Inbox.{any, is2b, chosen, isChosen2b, decided}
-use Rattle.summary.specs.Summary.{stands, marked, standing}
-use Rattle.summary.specs.Summary.Laws.{vote-parts}
+use Rattle.inbox.specs.Inbox.Members.{member-any, any-joined}
+use Rattle.summary.specs.Summary.{stands, isDecline, withBit, marked, decidedOrDeclined, standing}
+use Rattle.summary.specs.Summary.Laws.{vote-parts, proposal-instance}
 
 -- the messages after m was put into an inbox: m at their end, or the same where it is there already
 abbrev pub Joins : List Message → List Message → Message → Type 0
-Joins seen seen′ m = (seen′ ≡ seen ++ (m ∷ [])) ⊎ (seen′ ≡ seen)
+Joins seen seen′ m = (seen′ ≡ seen ++ (m ∷ [])) ⊎ ((seen′ ≡ seen) × List·Memᴰ m seen)
 
 -- a 2b of instance i with value v
 unfoldable pub isVoteFor : ℕ → ℕ → Message → Bool
@@ -42,11 +43,6 @@ isVoteFor i v (Phase1b _ _ _ _) = false
 isVoteFor i v (Phase2a _ _ _) = false
 isVoteFor i v (Phase2b ins acc bal val) = eqb ins i && eqb val v
 isVoteFor i v (Decision _) = false
-
-pub any-joined : (test : Message → Bool) (seen : List Message) (m : Message) → any test (seen ++ (m ∷ [])) ≡ (any test seen || test m)
-unfolding any
-any-joined test [] m = or-false (test m)
-any-joined test (x ∷ seen) m = ap (λ (t : Bool). test x || t) (any-joined test seen m) ∙ sym (or-assoc (test x) (any test seen) (test m))
 
 any-ext : (f g : Message → Bool) → ((x : Message) → f x ≡ g x) → (seen : List Message) → any f seen ≡ any g seen
 unfolding any
@@ -151,11 +147,14 @@ module _ (p : Plan) (seen : List Message) (m : Message) (i v : ℕ) where
 module _ (p : Plan) (seen seen′ : List Message) (m : Message) where
   pub decided-kept : Joins seen seen′ m → (i v : ℕ) → decided p seen i v ≡ true → decided p seen′ i v ≡ true
   decided-kept (inl e) i v h = rw e (kept-more p seen m i v h)
-  decided-kept (inr e) i v h = rw e h
+  decided-kept (inr (e, there)) i v h = rw e h
 
   pub decided-other : Joins seen seen′ m → (i v : ℕ) → isVoteFor i v m ≡ false → decided p seen′ i v ≡ decided p seen i v
   decided-other (inl e) i v o = rw e (other-more p seen m i v o)
-  decided-other (inr e) i v o = rw e
+  decided-other (inr (e, there)) i v o = rw e
+
+two-sym : (w : ℕ) → eqb w 2 ≡ eqb 2 w
+two-sym w = elim (ℕ-discrete w 2) [ yes e ↦ rw e | no n ↦ ne-eqb w 2 n ∙ sym (ne-eqb 2 w (λ e. n (sym e))) ]
 
 abbrev pub Says : Plan → List Message → List ℕ → Type 0
 Says p seen s = (i : ℕ) → i < p .rms → getD s i 0 ≡ standing p seen i
@@ -178,23 +177,28 @@ bit-1 true false = refl
 bit-1 false true = refl
 bit-1 false false = refl
 
-insert-0 : (a b : Bool) → insertBit (bitsOf a b) 0 ≡ bitsOf true b
+-- with the bit of value v where t
+insert-bit : (a b t : Bool) (v : ℕ) → (v ≡ 1) ⊎ (v ≡ 2) → cond t (join (bitsOf a b) (v - 1)) (bitsOf a b) ≡ bitsOf (a || (eqb v 1 && t)) (b || (eqb v 2 && t))
 unfolding insertBit
-insert-0 true true = refl
-insert-0 true false = refl
-insert-0 false true = refl
-insert-0 false false = refl
-
-insert-1 : (a b : Bool) → insertBit (bitsOf a b) 1 ≡ bitsOf a true
-unfolding insertBit
-insert-1 true true = refl
-insert-1 true false = refl
-insert-1 false true = refl
-insert-1 false false = refl
+insert-bit a b false v value = rw (and-false (eqb v 1), and-false (eqb v 2), or-false a, or-false b)
+insert-bit a b true v (inl one) = rw one (go a b)
+  where
+    go : (a b : Bool) → insertBit (bitsOf a b) 0 ≡ bitsOf (a || true) (b || false)
+    go true true = refl
+    go true false = refl
+    go false true = refl
+    go false false = refl
+insert-bit a b true v (inr two) = rw two (go a b)
+  where
+    go : (a b : Bool) → insertBit (bitsOf a b) 1 ≡ bitsOf (a || false) (b || true)
+    go true true = refl
+    go true false = refl
+    go false true = refl
+    go false false = refl
 
 pub standing-most : (p : Plan) (seen : List Message) (i : ℕ) → standing p seen i ≤ 3
 unfolding standing
-standing-most p seen i = go (decided p seen i 1) (decided p seen i 2)
+standing-most p seen i = go (decidedOrDeclined p seen i 1) (decidedOrDeclined p seen i 2)
   where
     go : (a b : Bool) → bitsOf a b ≤ 3
     go true true = omega arith
@@ -203,7 +207,7 @@ standing-most p seen i = go (decided p seen i 1) (decided p seen i 2)
     go false false = omega arith
 
 pub says-zeros : (p : Plan) (n : ℕ) → Says p [] (replicate n 0)
-unfolding standing decided any
+unfolding standing decidedOrDeclined decided any
 says-zeros p n i h = zeros n i
   where
     zeros : (n i : ℕ) → getD {A = ℕ} (replicate n 0) i 0 ≡ 0
@@ -212,88 +216,119 @@ says-zeros p n i h = zeros n i
     zeros (suc n) (suc i) = zeros n i
 
 pub stands-says : (p : Plan) (seen : List Message) (s : List ℕ) → Says p seen s → (i v : ℕ) → i < p .rms → (v ≡ 1) ⊎ (v ≡ 2)
-    → stands s i v ≡ decided p seen i v
+    → stands s i v ≡ decidedOrDeclined p seen i v
 unfolding stands standing
-stands-says p seen s says i v h (inl one) = rw one (ap (λ (b : ℕ). hasBit b 0) (says i h) ∙ bit-0 (decided p seen i 1) (decided p seen i 2))
-stands-says p seen s says i v h (inr two) = rw two (ap (λ (b : ℕ). hasBit b 1) (says i h) ∙ bit-1 (decided p seen i 1) (decided p seen i 2))
+stands-says p seen s says i v h (inl one) =
+    rw one (ap (λ (b : ℕ). hasBit b 0) (says i h) ∙ bit-0 (decidedOrDeclined p seen i 1) (decidedOrDeclined p seen i 2))
+stands-says p seen s says i v h (inr two) =
+    rw two (ap (λ (b : ℕ). hasBit b 1) (says i h) ∙ bit-1 (decidedOrDeclined p seen i 1) (decidedOrDeclined p seen i 2))
 
-module _ (p : Plan) (seen seen′ : List Message) (s : List ℕ) (says : Says p seen s) where
-  -- a message that is no 2b of the instance
-  byte-other : (m : Message) → Joins seen seen′ m → (i : ℕ) → i < p .rms → isVoteFor i 1 m ≡ false → isVoteFor i 2 m ≡ false
-      → getD s i 0 ≡ standing p seen′ i
-  unfolding standing
-  byte-other m j i h one two = says i h ∙ sym (ap₂ bitsOf (decided-other p seen seen′ m j i 1 one) (decided-other p seen seen′ m j i 2 two))
+module _ (p : Plan) (seen seen′ : List Message) where
+  -- of (ins, val) alone more may be announced, and that where t
+  abbrev Gains : Bool → ℕ → ℕ → Type 0
+  Gains t ins val = (j w : ℕ) → decidedOrDeclined p seen′ j w ≡ (decidedOrDeclined p seen j w || (eqb ins j && (eqb val w && t)))
 
-  pub says-other : (m : Message) → Joins seen seen′ m → ((i v : ℕ) → isVoteFor i v m ≡ false) → Says p seen′ s
-  says-other m j none i h = byte-other m j i h (none i 1) (none i 2)
+  -- nothing more
+  abbrev Same : Type 0
+  Same = (j w : ℕ) → decidedOrDeclined p seen′ j w ≡ decidedOrDeclined p seen j w
 
-  -- what was not decided and is not now
-  still : (m : Message) → Joins seen seen′ m → (i v : ℕ) → decided p seen′ i v ≡ false → decided p seen i v ≡ false
-  still m j i v un = go (decided p seen i v) refl
+  -- a decline is there if it was, or the message is one
+  same-declined : (m : Message) → Joins seen seen′ m → (j : ℕ) → any (isDecline j) seen′ ≡ (any (isDecline j) seen || isDecline j m)
+  same-declined m (inl e) j = rw e (any-joined (isDecline j) seen m)
+  same-declined m (inr (e, there)) j = rw e (go (isDecline j m) refl)
     where
-      go : (b : Bool) → decided p seen i v ≡ b → b ≡ false
-      go true d = absurd (false≢true (sym un ∙ decided-kept p seen seen′ m j i v d))
-      go false d = refl
+      go : (t : Bool) → isDecline j m ≡ t → any (isDecline j) seen ≡ (any (isDecline j) seen || t)
+      go false is = sym (or-false (any (isDecline j) seen))
+      go true is = member-any (isDecline j) seen m there is ∙ sym (or-true (any (isDecline j) seen))
 
-  module _ (size : length s ≡ p .rms) (ins acc bal : ℕ) (below : ins < p .rms) where
-    -- the marked byte: of prepared, and of aborted
-    byte-1 : Joins seen seen′ (Phase2b ins acc bal 1) → getD (marked (decided p seen′) s (Phase2b ins acc bal 1)) ins 0 ≡ standing p seen′ ins
-    unfolding marked standing isVoteFor
-    byte-1 j = go (decided p seen′ ins 1) refl
+  gains-2a : (ins bal val : ℕ) → Joins seen seen′ (Phase2a ins bal val) → Gains (eqb bal 0 && eqb val 2) ins 2
+  unfolding decidedOrDeclined isVoteFor isDecline
+  gains-2a ins bal val joins j w =
+      rw (decided-other p seen seen′ (Phase2a ins bal val) joins j w refl, same-declined (Phase2a ins bal val) joins j)
+      (go (decided p seen j w) (any (isDecline j) seen) (eqb ins j) (eqb bal 0 && eqb val 2) (eqb w 2) ∙ rw (two-sym w))
+    where
+      go : (d x e t f : Bool) → (d || (f && (x || (e && t)))) ≡ ((d || (f && x)) || (e && (f && t)))
+      go true x e t f = refl
+      go false x e t true = refl
+      go false x e t false = sym (and-false e)
+
+  gains-2b : (ins acc bal val : ℕ) → Joins seen seen′ (Phase2b ins acc bal val) → Gains (decided p seen′ ins val) ins val
+  unfolding decidedOrDeclined isVoteFor isDecline
+  gains-2b ins acc bal val joins j w =
+      rw (same-declined m joins j, or-false (any (isDecline j) seen))
+      (go (eqb ins j) (eqb val w) refl refl)
+    where
+      m : Message
+      m = Phase2b ins acc bal val
+
+      rest : Bool
+      rest = eqb w 2 && any (isDecline j) seen
+
+      other : (e f : Bool) → eqb ins j ≡ e → eqb val w ≡ f → (e && f) ≡ false → decided p seen′ j w ≡ decided p seen j w
+      other e f d g none = decided-other p seen seen′ m joins j w (rw (d, g) none)
+
+      more : (d d′ x : Bool) → (d ≡ true → d′ ≡ true) → (d′ || x) ≡ ((d || x) || d′)
+      more true d′ x kept = rw (kept refl)
+      more false true x kept = sym (or-true x)
+      more false false x kept = sym (or-false x)
+
+      go : (e f : Bool) → eqb ins j ≡ e → eqb val w ≡ f
+          → (decided p seen′ j w || rest) ≡ ((decided p seen j w || rest) || (e && (f && decided p seen′ ins val)))
+      go false f d g = rw (other false f d g refl) (sym (or-false _))
+      go true false d g = rw (other true false d g refl) (sym (or-false _))
+      go true true d g =
+          let here = eqb-true ins j d in
+          let value = eqb-true val w g in
+          rw (here, value) (more (decided p seen j w) (decided p seen′ j w) rest (decided-kept p seen seen′ m joins j w))
+
+  same-other : (m : Message) → Joins seen seen′ m → ((i v : ℕ) → isVoteFor i v m ≡ false) → ((i : ℕ) → isDecline i m ≡ false) → Same
+  unfolding decidedOrDeclined
+  same-other m joins no-vote no-decline j w =
+      rw (decided-other p seen seen′ m joins j w (no-vote j w), same-declined m joins j, no-decline j, or-false (any (isDecline j) seen))
+
+  module _ (s : List ℕ) (says : Says p seen s) where
+    says-same : Same → Says p seen′ s
+    unfolding standing
+    says-same same i h = says i h ∙ sym (ap₂ bitsOf (same i 1) (same i 2))
+
+    pub says-other : (m : Message) → Joins seen seen′ m → ((i v : ℕ) → isVoteFor i v m ≡ false) → ((i : ℕ) → isDecline i m ≡ false) → Says p seen′ s
+    says-other m joins no-vote no-decline = says-same (same-other m joins no-vote no-decline)
+
+    says-gains : length s ≡ p .rms → (t : Bool) (ins val : ℕ) → ins < p .rms → (val ≡ 1) ⊎ (val ≡ 2) → Gains t ins val
+        → Says p seen′ (cond t (withBit s ins val) s)
+    unfolding standing
+    says-gains size t ins val below value gains j h = go (ℕ-discrete j ins)
       where
-        two : decided p seen′ ins 2 ≡ decided p seen ins 2
-        two = decided-other p seen seen′ (Phase2b ins acc bal 1) j ins 2 (rw (eq-eqb ins ins refl))
+        kept : (u : Bool) → (j ≡ ins → ⊥) → getD (cond u (withBit s ins val) s) j 0 ≡ getD s j 0
+        kept true apart = getD-set-other s ins j (join (getD s ins 0) (val - 1)) 0 apart
+        kept false apart = refl
 
-        go : (d : Bool) → decided p seen′ ins 1 ≡ d
-            → getD (cond d (set s ins (insertBit (getD s ins 0) 0)) s) ins 0 ≡ bitsOf (decided p seen′ ins 1) (decided p seen′ ins 2)
-        go true d =
-            getD-set-same s ins (insertBit (getD s ins 0) 0) 0 (rw size below)
-            ∙ ap (λ (b : ℕ). insertBit b 0) (says ins below)
-            ∙ insert-0 (decided p seen ins 1) (decided p seen ins 2)
-            ∙ sym (ap₂ bitsOf d two)
-        go false d = says ins below ∙ sym (ap₂ bitsOf (d ∙ sym (still (Phase2b ins acc bal 1) j ins 1 d)) two)
+        new : (u : Bool) → getD (cond u (withBit s ins val) s) ins 0 ≡ cond u (join (getD s ins 0) (val - 1)) (getD s ins 0)
+        new true = getD-set-same s ins (join (getD s ins 0) (val - 1)) 0 (rw size below)
+        new false = refl
 
-    byte-2 : Joins seen seen′ (Phase2b ins acc bal 2) → getD (marked (decided p seen′) s (Phase2b ins acc bal 2)) ins 0 ≡ standing p seen′ ins
-    unfolding marked standing isVoteFor
-    byte-2 j = go (decided p seen′ ins 2) refl
-      where
-        one : decided p seen′ ins 1 ≡ decided p seen ins 1
-        one = decided-other p seen seen′ (Phase2b ins acc bal 2) j ins 1 (rw (eq-eqb ins ins refl))
+        go : Dec (j ≡ ins) → getD (cond t (withBit s ins val) s) j 0 ≡ bitsOf (decidedOrDeclined p seen′ j 1) (decidedOrDeclined p seen′ j 2)
+        go (no apart) =
+            let unlike = ne-eqb ins j (λ e. apart (sym e)) in
+            let same : (w : ℕ) → decidedOrDeclined p seen′ j w ≡ decidedOrDeclined p seen j w
+            = λ w. gains j w ∙ rw unlike (or-false (decidedOrDeclined p seen j w)) in
+            kept t apart ∙ says j h ∙ sym (ap₂ bitsOf (same 1) (same 2))
+        go (yes e) =
+            let more : (w : ℕ) → decidedOrDeclined p seen′ ins w ≡ (decidedOrDeclined p seen ins w || (eqb val w && t))
+            = λ w. gains ins w ∙ rw (eq-eqb ins ins refl) in
+            rw e
+            (new t
+            ∙ ap (λ (b : ℕ). cond t (join b (val - 1)) b) (says ins below)
+            ∙ insert-bit (decidedOrDeclined p seen ins 1) (decidedOrDeclined p seen ins 2) t val value
+            ∙ sym (ap₂ bitsOf (more 1) (more 2)))
 
-        go : (d : Bool) → decided p seen′ ins 2 ≡ d
-            → getD (cond d (set s ins (insertBit (getD s ins 0) 1)) s) ins 0 ≡ bitsOf (decided p seen′ ins 1) (decided p seen′ ins 2)
-        go true d =
-            getD-set-same s ins (insertBit (getD s ins 0) 1) 0 (rw size below)
-            ∙ ap (λ (b : ℕ). insertBit b 1) (says ins below)
-            ∙ insert-1 (decided p seen ins 1) (decided p seen ins 2)
-            ∙ sym (ap₂ bitsOf one d)
-        go false d = says ins below ∙ sym (ap₂ bitsOf one (d ∙ sym (still (Phase2b ins acc bal 2) j ins 2 d)))
-
-    -- another instance's byte
-    byte-apart : (val : ℕ) → Joins seen seen′ (Phase2b ins acc bal val) → (i : ℕ) → i < p .rms → (i ≡ ins → ⊥)
-        → getD (marked (decided p seen′) s (Phase2b ins acc bal val)) i 0 ≡ standing p seen′ i
-    unfolding marked isVoteFor
-    byte-apart val j i h apart =
-        let differ = ne-eqb ins i (λ e. apart (sym e)) in
-        go (decided p seen′ ins val) ∙ byte-other (Phase2b ins acc bal val) j i h (rw differ) (rw differ)
-      where
-        go : (d : Bool) → getD (cond d (set s ins (join (getD s ins 0) (val - 1))) s) i 0 ≡ getD s i 0
-        go true = getD-set-other s ins i (join (getD s ins 0) (val - 1)) 0 apart
-        go false = refl
-
-  -- the byte of an instance, when a 2b joins
-  byte-2b : length s ≡ p .rms → (ins acc bal val : ℕ) → ins < p .rms → (val ≡ 1) ⊎ (val ≡ 2) → Joins seen seen′ (Phase2b ins acc bal val)
-      → (i : ℕ) → i < p .rms → Dec (i ≡ ins) → getD (marked (decided p seen′) s (Phase2b ins acc bal val)) i 0 ≡ standing p seen′ i
-  byte-2b size ins acc bal val below v j i h (no n) = byte-apart size ins acc bal below val j i h n
-  byte-2b size ins acc bal val below (inl one) j i h (yes e) = rw (e, one) (byte-1 size ins acc bal below (rw one at j))
-  byte-2b size ins acc bal val below (inr two) j i h (yes e) = rw (e, two) (byte-2 size ins acc bal below (rw two at j))
-
-  pub marked-says : length s ≡ p .rms → (m : Message) → isInRange p m ≡ true → Joins seen seen′ m → Says p seen′ (marked (decided p seen′) s m)
-  unfolding marked isVoteFor
-  marked-says size (Phase1a ins bal) range j i h = byte-other (Phase1a ins bal) j i h refl refl
-  marked-says size (Phase1b ins acc mbal vote) range j i h = byte-other (Phase1b ins acc mbal vote) j i h refl refl
-  marked-says size (Phase2a ins bal val) range j i h = byte-other (Phase2a ins bal val) j i h refl refl
-  marked-says size (Decision val) range j i h = byte-other (Decision val) j i h refl refl
-  marked-says size (Phase2b ins acc bal val) range j i h =
-      let r = vote-parts p ins acc bal val range in
-      byte-2b size ins acc bal val (r .0) (r .1) j i h (ℕ-discrete i ins)
+    pub marked-says : length s ≡ p .rms → (m : Message) → isInRange p m ≡ true → Joins seen seen′ m → Says p seen′ (marked (decided p seen′) s m)
+    unfolding marked isVoteFor isDecline
+    marked-says size (Phase1a ins bal) range joins = says-other (Phase1a ins bal) joins (λ i v. refl) (λ i. refl)
+    marked-says size (Phase1b ins acc mbal vote) range joins = says-other (Phase1b ins acc mbal vote) joins (λ i v. refl) (λ i. refl)
+    marked-says size (Phase2a ins bal val) range joins =
+        says-gains size (eqb bal 0 && eqb val 2) ins 2 (proposal-instance p ins bal val range) (inr refl) (gains-2a ins bal val joins)
+    marked-says size (Phase2b ins acc bal val) range joins =
+        let r = vote-parts p ins acc bal val range in
+        says-gains size (decided p seen′ ins val) ins val (r .0) (r .1) (gains-2b ins acc bal val joins)
+    marked-says size (Decision val) range joins = says-other (Decision val) joins (λ i v. refl) (λ i. refl)
