@@ -1,9 +1,10 @@
 /*
  * All calls in one program: opens a record, runs document 01's example on it, feeds it junk, hands it a backlog as one
  * list, then runs an order with a host for each role, which share nothing but the messages that they send each other;
- * then the same order on tables that are too small, where most calls are refused; at last the writer, deliveries, and
- * events and refusals by name. Messages of another order come in between, and are refused. It prints what each call
- * answered; hosts/test compares that with host.stdout. docs/HOSTS.md has the command that builds it.
+ * then the same order on tables that are too small, where most calls are refused; then an order in which a weight
+ * declines; at last the writer, deliveries, and events and refusals by name. Messages of another order come in between,
+ * and are refused. It prints what each call answered; hosts/test compares that with host.stdout. docs/HOSTS.md has the
+ * command that builds it.
  */
 #include "paxos_commit.h"
 
@@ -424,6 +425,33 @@ static void hosts(size_t slots) {
     free_host(&leader);
 }
 
+/* ---- a weight declines: the leader hears its 2a, and Abort comes to all before an acceptor votes ---- */
+
+static void declined(void) {
+    struct host weight[RMS], leader = new_host("leader", 0, NULL, PAXOS_COMMIT_INBOX_SIZE(SLOTS), SLOTS);
+    for (uint8_t i = 0; i < RMS; i++)
+        weight[i] = new_host("weight", i, paxos_commit_rm_step, PAXOS_COMMIT_STATES_SIZE(RMS), SLOTS);
+
+    printf("-- a weight declines\n");
+    struct message prepared = act(&weight[0], "prepares", PAXOS_COMMIT_KIND_PREPARE),
+                   aborted = act(&weight[1], "chooses to abort", PAXOS_COMMIT_KIND_CHOOSE_TO_ABORT);
+    show("2a", aborted.bytes, aborted.len);
+    take(&leader, "takes the 2a of weight 0", PAXOS_COMMIT_KIND_RECEIPT, &prepared);
+    act(&leader, "decides Abort", PAXOS_COMMIT_KIND_ABORT);
+    take(&leader, "takes the 2a of weight 1", PAXOS_COMMIT_KIND_RECEIPT, &aborted);
+    show("summary", leader.summary, leader.summary_len);
+    struct message decision = act(&leader, "decides Abort", PAXOS_COMMIT_KIND_ABORT);
+    /* A 2a of a later ballot is a leader's, and says nothing of the weight. */
+    const struct message later = {{PAXOS_COMMIT_MAP_2A, 0, 1, PAXOS_COMMIT_VALUE_ABORTED, ORDER_BYTES}, 6};
+    take(&leader, "takes a 2a of ballot 1", PAXOS_COMMIT_KIND_RECEIPT, &later);
+    for (uint8_t i = 0; i < RMS; i++) {
+        take(&weight[i], "takes Abort", PAXOS_COMMIT_KIND_TAKE_DECISION, &decision);
+        show("W", weight[i].table, weight[i].table_len);
+        free_host(&weight[i]);
+    }
+    free_host(&leader);
+}
+
 /* ---- the writer ---- */
 
 static void writer(void) {
@@ -565,6 +593,7 @@ int main(void) {
     hosts(64);
     hosts(1);
     hosts(0);
+    declined();
     writer();
     deliveries();
     ballots();

@@ -2,7 +2,7 @@
  * The proved Paxos Commit record, for C and C++.
  *
  * The calls are written in Rattle and proved to answer and store exactly what document 01 says, as Papers 1
- * to 5 of document 02 change it. Each group below is a static library of its own; a host links those that it needs, and
+ * to 6 of document 02 change it. Each group below is a static library of its own; a host links those that it needs, and
  * none has another role's code. They link into x86-64 programs, position independent or not, and use less than 8 KiB of
  * stack. libhost_message.a wants nothing, the others `memset`.
  *
@@ -84,7 +84,8 @@ enum paxos_commit_refusal {
     PAXOS_COMMIT_REFUSAL_BAD_EVENT = 7,
     /* the slot is unused or beyond N */
     PAXOS_COMMIT_REFUSAL_NO_MESSAGE = 8,
-    /* the slot's message is not one that this role takes */
+    /* the slot's message is not one that this role takes: a weight a decision; an acceptor a 1a or 2a; a leader a 1b, a
+       2b or a 2a at ballot 0 */
     PAXOS_COMMIT_REFUSAL_WRONG_ROLE = 9,
     /* kinds 5 and 6: the leader does not own the ballot (it does when ballot > 0 and (ballot - 1) mod leaders = who) */
     PAXOS_COMMIT_REFUSAL_NOT_OWNED = 10,
@@ -120,7 +121,8 @@ enum paxos_commit_state {
 
 /* A value, `val` of a 1b, 2a or 2b; in Q 0 is no vote. 2 is aborted here, and committed as a state. In the summary a
  * value is its own bit: byte l * rms + i has VALUE_PREPARED where leader l has heard that prepared is decided for
- * instance i, and VALUE_ABORTED where aborted is. */
+ * instance i, and VALUE_ABORTED where it has heard that aborted is, or that weight i declined: its own 2a, at ballot 0.
+ * So VALUE_ABORTED does not say that a majority has voted. */
 enum paxos_commit_value { PAXOS_COMMIT_VALUE_PREPARED = 1, PAXOS_COMMIT_VALUE_ABORTED = 2 };
 
 /* What a leader decided, `val` of a decision. */
@@ -148,11 +150,12 @@ enum paxos_commit_map {
  * of N; for 5 and 6 high is the instance and low the ballot; otherwise both are 0. */
 enum paxos_commit_kind {
     PAXOS_COMMIT_KIND_PREPARE = 0,         /* weight: sends 2a(who, 0, prepared) */
-    PAXOS_COMMIT_KIND_CHOOSE_TO_ABORT = 1, /* weight: sends 2a(who, 0, aborted) */
+    PAXOS_COMMIT_KIND_CHOOSE_TO_ABORT = 1, /* weight: declines, sends 2a(who, 0, aborted) */
     PAXOS_COMMIT_KIND_TAKE_DECISION = 2,   /* weight: takes the decision in the slot; quiet */
     PAXOS_COMMIT_KIND_VOTE = 3,            /* acceptor: answers the 1a in the slot by a 1b, or the 2a there by a 2b */
-    PAXOS_COMMIT_KIND_RECEIPT = 4,         /* leader: takes the 1b or 2b in the slot into its inbox; quiet. A 2b for a
-                                              value that its inbox then decides sets that bit of the summary */
+    PAXOS_COMMIT_KIND_RECEIPT = 4,         /* leader: takes the 1b, the 2b or the 2a at ballot 0 in the slot into its
+                                              inbox; quiet. A 2b for a value that its inbox then decides sets that bit
+                                              of the summary, a 2a for aborted that of aborted */
     PAXOS_COMMIT_KIND_PHASE_1A = 5,        /* leader: sends 1a(high, low) */
     PAXOS_COMMIT_KIND_PHASE_2A = 6,        /* leader: sends 2a(high, low, v), kept in its inbox, whose 1b say v */
     PAXOS_COMMIT_KIND_COMMIT = 7,          /* leader: sends Commit, if its summary has all instances as prepared */

@@ -115,6 +115,9 @@ impl Tables {
         let inboxes = self.inboxes.chunks_exact(self.inboxes.len() / usize::from(PLAN.leaders));
         for (inbox, summary) in inboxes.zip(self.summary.chunks_exact_mut(PLAN.leader_summary_len())) {
             let mut voters = HashMap::new();
+            for slot in inbox.chunks_exact(SLOT).filter(|slot| matches!(slot, [0x39, _, 0, 2, ..])) {
+                summary[usize::from(slot[1])] |= 2;
+            }
             for slot in inbox.chunks_exact(SLOT).filter(|slot| slot[0] == 0x3B) {
                 let voters: &mut u8 = voters.entry([slot[1], slot[3], slot[4]]).or_default();
                 *voters |= 1 << slot[2];
@@ -182,7 +185,7 @@ fn kinds() -> Vec<Kind> {
         (0..acceptors).flat_map(|acc| (0..16).map(move |ins| message_2b(ins, acc, 0, 1))).collect::<Vec<_>>()
     };
     let reports = (0..4).map(|acc| message_1b_vote(3, acc, 13, acc, 1)).collect::<Vec<_>>();
-    let aborts = (0..4).map(|acc| message_2b(3, acc, 9, 2)).collect::<Vec<_>>();
+    let aborts = |ins| (0..4).map(|acc| message_2b(ins, acc, 9, 2)).collect::<Vec<_>>();
     let received = message_1b(3, 2, 20);
     // Votes for weight 15, which no others decide as prepared.
     let vote = |acc| message_2b(15, acc, 20, 1);
@@ -191,6 +194,14 @@ fn kinds() -> Vec<Kind> {
         received: Some(vote(2)),
         inbox: acceptors.iter().map(|&acc| vote(acc)).collect(),
         clear: true,
+        ..kind(name, Event::Receipt { leader: 3, slot: 0 })
+    };
+    // Weight 15 declines.
+    let decline = |name, inbox, clear| Kind {
+        takes: Some(message_2a(15, 0, 2)),
+        received: Some(message_2a(15, 0, 2)),
+        inbox,
+        clear,
         ..kind(name, Event::Receipt { leader: 3, slot: 0 })
     };
     vec![
@@ -215,6 +226,8 @@ fn kinds() -> Vec<Kind> {
         receipt("4 receipt of a 2b, bit clear", &[0, 1]),
         receipt("4 receipt of a 2b that decides", &[0, 1, 3]),
         Kind { clear: false, ..receipt("4 receipt of a 2b, bit set", &[0, 1, 3, 4]) },
+        decline("4 receipt of a 2a, bit clear", vec![], true),
+        decline("4 receipt of a 2a, bit set", aborts(15), false),
         Kind { sends: Some(message_1a(3, 13)), ..kind("5 phase 1a", Event::Phase1a { leader: 0, ins: 3, bal: 13 }) },
         Kind {
             inbox: reports,
@@ -224,7 +237,7 @@ fn kinds() -> Vec<Kind> {
         },
         Kind { inbox: votes(4), sends: Some(decision(1)), ..kind("7 commit", Event::Commit { leader: 3 }) },
         Kind { inbox: votes(3), ..kind("7 refused (12)", Event::Commit { leader: 3 }) },
-        Kind { inbox: aborts, sends: Some(decision(2)), ..kind("8 abort", Event::Abort { leader: 3 }) },
+        Kind { inbox: aborts(3), sends: Some(decision(2)), ..kind("8 abort", Event::Abort { leader: 3 }) },
         kind("0, no room when full (13)", Event::Prepare { rm: 3 }),
         Kind { takes: Some(received), ..kind("4, no room when full (14)", Event::Receipt { leader: 3, slot: 0 }) },
         kind("2, slot beyond N (8)", Event::TakeDecision { rm: 3, slot: 65535 }),
@@ -619,6 +632,7 @@ fn rows(full: bool) -> Vec<Row> {
     let came: Vec<Message> =
         weights().flat_map(|ins| [message_1b(ins, 2, 20), message_2b(ins, 5, 21, 1 + ins % 2)]).collect();
     let decided: Vec<Message> = weights().map(|ins| message_2b(ins, 5, 21, 1 + ins % 2)).collect();
+    let declined: Vec<Message> = weights().map(|ins| message_2a(ins, 0, 2)).collect();
     // Weight 15, so that no bit is set.
     let open: Vec<Message> = (0..16).map(|k| message_2b(15, k % 7, 21 + k, 1)).collect();
     // A leader's instances and ballots.
@@ -676,6 +690,13 @@ fn rows(full: bool) -> Vec<Row> {
             ..row("4 receipt of a 2b in the inbox, bit set", pairs(4, &decided, 4))
         },
         Row { network: came.clone(), ..row("4 receipt", pairs(4, &came, 4)) },
+        Row {
+            network: declined.clone(),
+            sought: declined.clone(),
+            sought_in_inbox: true,
+            ..row("4 receipt of a 2a, in the inbox", pairs(4, &declined, 4))
+        },
+        Row { network: declined.clone(), ..row("4 receipt of a 2a", pairs(4, &declined, 4)) },
         Row { sought: sent(16, message_1a), ..row("5 phase 1a, in N", plain(leading(16, phase_1a))) },
         row("5 phase 1a", plain(leading(64, phase_1a))),
         Row { inboxes: reports(8, 3), ..row("6 phase 2a, no majority", plain(leading(8, phase_2a))) },

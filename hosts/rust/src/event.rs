@@ -9,7 +9,8 @@ pub enum Event {
         /// The weight.
         rm: u8,
     },
-    /// Kind 1: weight `rm` chooses to abort, and sends 2a(rm, 0, aborted).
+    /// Kind 1: weight `rm` chooses to abort: it declines, and sends 2a(rm, 0, aborted). A leader that takes this message
+    /// needs no other to abort.
     ChooseToAbort {
         /// The weight.
         rm: u8,
@@ -29,8 +30,10 @@ pub enum Event {
         /// The slot.
         slot: u16,
     },
-    /// Kind 4: a leader takes the 1b or 2b in a slot of N into its inbox. Quiet. A 2b for a value that the inbox then
-    /// decides sets that value's bit in its summary.
+    /// Kind 4: a leader takes the 1b, the 2b or the 2a at ballot 0 in a slot of N into its inbox. Quiet. A 2b for a value
+    /// that the inbox then decides sets that value's bit in its summary, and a 2a for aborted, which is from the weight
+    /// itself, that of aborted. Other 2a messages, a leader's, are refused with
+    /// [`Refusal::WrongRole`](crate::Refusal::WrongRole).
     Receipt {
         /// The leader.
         leader: u8,

@@ -36,6 +36,20 @@ use crate::{Answer, Event, Plan, Refusal, SLOT, leader_step};
 /// # }
 /// # Ok::<(), paxos_commit::Refusal>(())
 /// ```
+///
+/// A weight that declines is heard without an acceptor: its own 2a, at ballot 0, is enough to abort.
+///
+/// ```
+/// # #[cfg(feature = "deliver")] {
+/// # use paxos_commit::{Answer, Event, Leader, Plan};
+/// let mut leader = Leader::fresh(Plan { rms: 2, acceptors: 3, leaders: 1, order: 7 }, 64, 64)?;
+/// let slot = leader.deliver(&[0x39, 1, 0, 2, 0, 7])?; // from weight 1: 2a(1, 0, aborted)
+/// assert_eq!(leader.step(Event::Receipt { leader: 0, slot }), Ok(Answer::Quiet));
+/// assert_eq!(leader.summary(), [0, 2]);
+/// assert_eq!(leader.step(Event::Abort { leader: 0 }), Ok(Answer::Slot(1)));
+/// # }
+/// # Ok::<(), paxos_commit::Refusal>(())
+/// ```
 #[derive(Clone, Debug, PartialEq, Eq, Hash)]
 pub struct Leader<T = Vec<u8>> {
     plan: Plan,
@@ -111,8 +125,8 @@ impl<T: AsRef<[u8]> + AsMut<[u8]>> Leader<T> {
 
     /// This leader's part of the summary: a byte for each instance. It has the bit
     /// [`Value::Prepared`](crate::Value::Prepared), 1, where the inbox decides prepared for the instance, and the bit
-    /// [`Value::Aborted`](crate::Value::Aborted), 2, where it decides aborted. This holds where the
-    /// tables began as zeros.
+    /// [`Value::Aborted`](crate::Value::Aborted), 2, where it decides aborted or has the weight's own 2a for aborted, at
+    /// ballot 0; so this bit does not say that a majority has voted. This holds where the tables began as zeros.
     pub fn summary(&self) -> &[u8] {
         self.summary.as_ref()
     }

@@ -1,7 +1,7 @@
 //! Safe calls of the proved Paxos Commit record.
 //!
 //! The calls are written in Rattle and proved to answer and store exactly what document 01 says, as Papers 1 to
-//! 5 of document 02 change it. They stand in static libraries; this crate links them, gives them Rust types, and adds
+//! 6 of document 02 change it. They stand in static libraries; this crate links them, gives them Rust types, and adds
 //! nothing to what they decide. Tables, events and messages are any bytes of any length: a call accepts, or answers one
 //! [`Refusal`] and changes no byte.
 //!

@@ -29,7 +29,7 @@ pub enum Value {
 pub enum Decision {
     /// 1: all instances are decided as prepared.
     Commit = 1,
-    /// 2: some instance is decided as aborted.
+    /// 2: some instance is decided as aborted, or its weight chose to abort.
     Abort = 2,
 }
 

@@ -197,7 +197,8 @@ impl<T: AsRef<[u8]> + AsMut<[u8]>> Record<T> {
 
     /// The summary: a byte for each leader and instance, [`Plan::summary_range`]. It has the bit
     /// [`Value::Prepared`](crate::Value::Prepared), 1, where that leader's inbox decides prepared for the instance, and
-    /// the bit [`Value::Aborted`](crate::Value::Aborted), 2, where it decides aborted: so it is from opening on.
+    /// the bit [`Value::Aborted`](crate::Value::Aborted), 2, where it decides aborted or has the weight's own 2a for
+    /// aborted, at ballot 0: so it is from opening on.
     pub fn summary(&self) -> &[u8] {
         self.summary.as_ref()
     }

@@ -25,7 +25,8 @@ pub enum Refusal {
     BadEvent = 7,
     /// 8: the slot that the event names is unused or beyond N.
     NoMessage = 8,
-    /// 9: the message in the slot is not one that this role takes.
+    /// 9: the message in the slot is not one that this role takes: a decision for a weight, a 1a or 2a for an acceptor, a
+    /// 1b, a 2b or a 2a at ballot 0 for a leader.
     WrongRole = 9,
     /// 10: the leader does not own the ballot.
     NotOwned = 10,

@@ -1,7 +1,8 @@
 //! The lists of happenings of the crate `apart` on the linked calls: the one that ends committed (Examples.antt), and
 //! for each hypothesis those that fail it alone and break the claim (Needed.antt; here too for a summary that says more
-//! than its inbox); with three more, for a leader's inbox that is lost, for a summary that is lost, and for tables that
-//! are made longer. What happens to a leader happens to the crate's type `Leader` too, and both come out alike.
+//! than its inbox, and for a 2a at ballot 0 that its weight did not send); with four more, for a weight that declines, for
+//! a leader's inbox that is lost, for a summary that is lost, and for tables that are made longer. What happens to a
+//! leader happens to the crate's type `Leader` too, and both come out alike.
 
 use paxos_commit::*;
 use std::collections::HashMap;
@@ -177,6 +178,37 @@ fn the_list_that_commits() {
     assert_eq!(system.wire.len(), 3);
 }
 
+/// Weight 1 declines. Its 2a comes to the leader, and Abort to both weights; no acceptor takes part. The leader begins its
+/// summary anew in between, and the same 2a makes the bit again.
+#[test]
+fn a_weight_that_declines() {
+    let plan = Plan { rms: 2, acceptors: 3, leaders: 1, order: 0x0102 };
+    let mut system = System::fresh(plan, [(Rm, 2, 2, 16), (Acceptor, 3, 18, 48), (Leader, 1, 16, 16)]);
+    let (slot, quiet, not_enabled) = (|slot| Ok(Answer::Slot(slot)), Ok(Answer::Quiet), Err(Refusal::NotEnabled));
+    let (declined, abort) = ([0x39, 1, 0, 2, 1, 2], [0x30, 2, 1, 2]);
+    let kept = [&declined[..], &[0; 10]].concat();
+    for (happening, answer) in [
+        (act(Rm, 0, 0, 0, 0), slot(0)),
+        (act(Rm, 1, 1, 0, 0), slot(0)),
+        (act(Leader, 0, 8, 0, 0), not_enabled),
+        (to(Leader, 0, &declined), slot(0)),
+        (act(Leader, 0, 4, 0, 0), quiet),
+        (restart_leader(0, &kept, &[0, 0], &kept), quiet),
+        (act(Leader, 0, 8, 0, 0), not_enabled),
+        (act(Leader, 0, 4, 0, 0), quiet),
+        (act(Leader, 0, 8, 0, 0), slot(1)),
+        (to(Rm, 0, &abort), slot(1)),
+        (act(Rm, 0, 2, 0, 1), quiet),
+        (to(Rm, 1, &abort), slot(1)),
+        (act(Rm, 1, 2, 0, 1), quiet),
+    ] {
+        assert_eq!(system.failed(&happening), [""; 0], "{happening:?}");
+        assert_eq!(system.happen(&happening), answer, "{happening:?}");
+    }
+    assert_eq!((system.row(), system.wire.len()), (vec![3, 3], 3));
+    assert_eq!(system.hosts[&(Leader, 0)].summary, [0, 2]);
+}
+
 /// By the 2a of both weights, for prepared at ballot 0: the acceptor votes, the leader decides, and Commit comes to
 /// weight 1.
 fn deciding() -> Vec<Happening> {
@@ -220,6 +252,15 @@ fn not_forged_needed() {
     let mut network = [0; 24];
     network[..4].copy_from_slice(&[0x30, 1, 1, 2]);
     breaks("NotForged", before, restart(Rm, 1, &[0, 1], &network), vec![act(Rm, 1, 2, 0, 0)]);
+}
+
+/// Both weights have prepared and weight 1 is committed. A 2a that weight 0 did not send, for aborted at ballot 0, comes to
+/// the leader: it alone gives Abort.
+#[test]
+fn not_forged_needed_of_a_decline() {
+    let before = [vec![act(Rm, 0, 0, 0, 0), act(Rm, 1, 0, 0, 0)], deciding(), vec![act(Rm, 1, 2, 0, 1)]].concat();
+    let rest = vec![act(Leader, 0, 4, 0, 3), act(Leader, 0, 8, 0, 0), to(Rm, 0, &[0x30, 2, 1, 2]), act(Rm, 0, 2, 0, 1)];
+    breaks("NotForged", before, to(Leader, 0, &[0x39, 0, 0, 2, 1, 2]), rest);
 }
 
 #[test]

@@ -1,5 +1,6 @@
 //! Document 01's examples, its rehearsal and its limits through this crate, in an order with a number (document 02, Paper
-//! 1), what is refused of another order, lists (Paper 2), the owners of ballots (Paper 4), and the summary (Paper 5).
+//! 1), what is refused of another order, lists (Paper 2), the owners of ballots (Paper 4), the summary (Paper 5), and the
+//! abort that is heard early (Paper 6).
 
 use paxos_commit::*;
 
@@ -153,6 +154,72 @@ fn summary() {
     }
 }
 
+/// Weight 1 declines and leader 1 hears its 2a: Abort reaches both weights, and no acceptor has voted. The 2a of weight 0,
+/// which has prepared, is taken and sets no bit.
+#[test]
+fn abort_heard_early() {
+    let plan = Plan { rms: 2, acceptors: 3, leaders: 2, order: 0x0102 };
+    let mut record = Record::fresh(plan, 4, 2).unwrap();
+    let (slot, quiet, not_enabled) = (|slot| Ok(Answer::Slot(slot)), Ok(Answer::Quiet), Err(Refusal::NotEnabled));
+    for (event, answer) in [
+        (Event::Prepare { rm: 0 }, slot(0)),
+        (Event::ChooseToAbort { rm: 1 }, slot(1)),
+        (Event::Receipt { leader: 1, slot: 0 }, quiet),
+        (Event::Abort { leader: 1 }, not_enabled),
+        (Event::Receipt { leader: 1, slot: 1 }, quiet),
+        (Event::Commit { leader: 1 }, not_enabled),
+        (Event::Abort { leader: 0 }, not_enabled),
+        (Event::Abort { leader: 1 }, slot(2)),
+        (Event::TakeDecision { rm: 0, slot: 2 }, quiet),
+        (Event::TakeDecision { rm: 1, slot: 2 }, quiet),
+    ] {
+        assert_eq!(record.step(event), answer, "{event:?}");
+    }
+    assert_eq!((record.ending(), record.summary()), (Ok(Ending::Aborted), &[0, 0, 0, 2][..]));
+    assert_eq!((record.votes(), &record.inboxes()[16..]), (&[0; 18][..], &record.network()[..16]));
+}
+
+/// A receipt takes a 2a at ballot 0, of either value, and refuses others with 9, before 14. The one for aborted sets the
+/// bit, in the inbox already too; the one for prepared sets none, nor does a refused one. Beside it a 2b for aborted sets
+/// the bit by a majority alone.
+#[test]
+fn receipts_of_a_2a() {
+    let plan = Plan { rms: 2, acceptors: 3, leaders: 1, order: 0x0102 };
+    let proposal = |ins, bal, val| [0x39, ins, bal, val, 1, 2, 0, 0];
+    let vote = |acc| [0x3B, 1, acc, 0, 2, 1, 2, 0];
+    let messages = [proposal(0, 0, 1), proposal(1, 0, 2), proposal(1, 1, 2), proposal(0, 255, 1), vote(0), vote(2)];
+    let (prepared, aborted, at_ballot_1, at_ballot_255, vote_0, vote_2) = (0, 1, 2, 3, 4, 5);
+    let (quiet, wrong_role, full) = (Ok(Answer::Quiet), Err(Refusal::WrongRole), Err(Refusal::InboxFull));
+    // From a summary of zeros: the receipts, their answers, and the summary after each.
+    let inbox_after = |inbox: Vec<u8>, receipts: &[(u16, Result<Answer, Refusal>, [u8; 2])]| {
+        let mut leader = Leader::of(plan, inbox, vec![0; 2], messages.concat());
+        for &(slot, answer, standing) in receipts {
+            let before = leader.clone();
+            assert_eq!(leader.step(Event::Receipt { leader: 0, slot }), answer, "slot {slot}");
+            assert_eq!(leader.summary(), standing, "slot {slot}");
+            assert!(answer.is_ok() || leader == before, "slot {slot}");
+        }
+        leader.into_tables()[0].clone()
+    };
+    inbox_after(vec![], &[(aborted, full, [0, 0]), (prepared, full, [0, 0]), (at_ballot_1, wrong_role, [0, 0])]);
+    let inbox = inbox_after(
+        vec![0; slots_len(3)],
+        &[
+            (prepared, quiet, [0, 0]),
+            (at_ballot_1, wrong_role, [0, 0]),
+            (at_ballot_255, wrong_role, [0, 0]),
+            (vote_0, quiet, [0, 0]),
+            (aborted, quiet, [0, 2]),
+            (aborted, quiet, [0, 2]),
+            (vote_2, full, [0, 2]),
+        ],
+    );
+    assert_eq!(inbox, [proposal(0, 0, 1), vote(0), proposal(1, 0, 2)].concat());
+    // Both stand in the inbox.
+    inbox_after(inbox.clone(), &[(vote_0, quiet, [0, 0]), (aborted, quiet, [0, 2])]);
+    inbox_after([inbox, vec![0; SLOT]].concat(), &[(vote_0, quiet, [0, 0]), (vote_2, quiet, [0, 2])]);
+}
+
 /// 20 after 6 and before 7, in a list after 19, at opening after 2 and for the length alone; nothing changes.
 #[test]
 fn refused_summaries() {
@@ -222,17 +289,19 @@ fn rehearsal_as_a_list() {
     assert_eq!(list.run_bytes(events.as_flattened(), &mut answers), Ok(()));
     assert_eq!((answers, &list), ([0, 0, 0, 0, 0, 12], &single));
 
-    // Every refusal of an event, and bytes that are no event, in the midst of others that are accepted.
+    // Every refusal of an event but 11, and bytes that are no event, in the midst of others that are accepted.
     let (prepare, abort) = (Event::Prepare { rm: 0 }, Event::ChooseToAbort { rm: 0 });
     let beyond = Event::Vote { acceptor: 0, slot: 9 };
+    let no_decision = Event::TakeDecision { rm: 0, slot: 0 };
     let own = Event::Receipt { leader: 0, slot: 0 };
     let not_owned = Event::Phase1a { leader: 0, ins: 0, bal: 0 };
     let begun = Event::Phase1a { leader: 0, ins: 0, bal: 1 };
+    let events = [beyond, prepare, abort, no_decision, own, not_owned, begun, Event::Prepare { rm: 1 }];
     let mut list = Record::fresh(ONE, 1, 0).unwrap();
-    let mut answers = list.run(&[beyond, prepare, abort, own, not_owned, begun, Event::Prepare { rm: 1 }]).unwrap();
-    assert_eq!((answers.len(), answers.bytes()), (7, &[8, 0, 12, 9, 10, 13, 7][..]));
+    let mut answers = list.run(&events).unwrap();
+    assert_eq!((answers.len(), answers.bytes()), (8, &[8, 0, 12, 9, 14, 10, 13, 7][..]));
     assert_eq!((answers.next(), answers.next_back()), (Some(Err(Refusal::NoMessage)), Some(Err(Refusal::BadEvent))));
-    assert_eq!((answers.len(), answers.collect::<Vec<_>>()[0]), (5, Ok(())));
+    assert_eq!((answers.len(), answers.collect::<Vec<_>>()[0]), (6, Ok(())));
     assert_eq!(list.states(), [1]);
 }
 

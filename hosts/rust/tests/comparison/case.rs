@@ -2,6 +2,7 @@
 
 use crate::reference;
 use paxos_commit::{Answer, Ending, Fields, Plan, Refusal, SLOT};
+use std::ops::Range;
 
 /// W, Q, N, I and the summary.
 pub type Tables = [Vec<u8>; 5];
@@ -215,9 +216,15 @@ impl Engine for Singles {
 }
 
 /// The part of I, or of the summary, that is lent; where the table was shortened, what is left of it.
-pub fn part(table: &mut [u8], [from, to]: [usize; 2]) -> &mut [u8] {
+pub fn part(table: &mut [u8], bounds: [usize; 2]) -> &mut [u8] {
+    let range = range(table, bounds);
+    &mut table[range]
+}
+
+/// Where that part stands.
+pub fn range(table: &[u8], [from, to]: [usize; 2]) -> Range<usize> {
     let to = to.min(table.len());
-    &mut table[from.min(to)..to]
+    from.min(to)..to
 }
 
 /// Whether an inbox has 2b messages of a majority for this instance, ballot and value.
@@ -226,17 +233,26 @@ pub fn voted(plan: Plan, inbox: &[u8], ins: u8, bal: u8, val: u8) -> bool {
     2 * (0..plan.acceptors).filter(|&acc| has(acc)).count() > plan.acceptors.into()
 }
 
+/// Decided: those of a majority at some ballot.
+pub fn decided(plan: Plan, inbox: &[u8], ins: u8, val: u8) -> bool {
+    inbox
+        .chunks(SLOT)
+        .any(|slot| slot.starts_with(&[0x3B, ins]) && slot[4] == val && voted(plan, inbox, ins, slot[3], val))
+}
+
+/// Whether an inbox has the 2a by which a weight chooses to abort.
+pub fn declined(inbox: &[u8], ins: u8) -> bool {
+    inbox.chunks(SLOT).any(|slot| slot.starts_with(&[0x39, ins, 0, 2]))
+}
+
 /// The summary as the inboxes say it.
 pub fn standing(plan: Plan, inboxes: &[u8]) -> Vec<u8> {
-    let decided = |inbox: &[u8], ins, val| {
-        inbox
-            .chunks(SLOT)
-            .any(|slot| slot.starts_with(&[0x3B, ins]) && slot[4] == val && voted(plan, inbox, ins, slot[3], val))
-    };
+    let prepared = |inbox: &[u8], ins| decided(plan, inbox, ins, 1);
+    let aborted = |inbox: &[u8], ins| decided(plan, inbox, ins, 2) || declined(inbox, ins);
     (0..plan.leaders)
         .map(|leader| &inboxes[plan.inbox_range(inboxes.len(), leader).unwrap()])
         .flat_map(|inbox| (0..plan.rms).map(move |ins| (inbox, ins)))
-        .map(|(inbox, ins)| u8::from(decided(inbox, ins, 1)) + 2 * u8::from(decided(inbox, ins, 2)))
+        .map(|(inbox, ins)| u8::from(prepared(inbox, ins)) + 2 * u8::from(aborted(inbox, ins)))
         .collect()
 }
 
@@ -352,7 +368,8 @@ pub struct Pair<'a> {
     pub engines: [&'a dyn Engine; 2],
     pub tables: [Tables; 2],
     pub listed: [Vec<u8>; 2],
-    lent: Tables,
+    /// The tables as the last call was lent them.
+    pub lent: Tables,
     saved: Tables,
 }
 

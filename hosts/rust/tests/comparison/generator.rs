@@ -142,12 +142,13 @@ impl Generator {
         let ins = self.random.byte(self.plan.rms);
         let acc = self.random.byte(self.plan.acceptors);
         let (mbal, bal, val) = (self.ballot(), self.ballot(), 1 + self.random.byte(2));
-        let mut message = match self.random.below(8) {
+        let mut message = match self.random.below(9) {
             0 => vec![0x29, ins, bal.max(1)],
             1 => vec![0x27, ins, acc, mbal],
             2 | 3 => vec![0x3F, ins, acc, mbal, bal, val],
             4 => vec![0x39, ins, bal, val],
-            5 | 6 => vec![0x3B, ins, acc, bal, val],
+            5 => vec![0x39, ins, 0, val],
+            6 | 7 => vec![0x3B, ins, acc, bal, val],
             _ => vec![0x30, val],
         };
         message.extend(self.plan.order.to_be_bytes());
@@ -452,15 +453,20 @@ impl Generator {
         }
     }
 
-    /// A slot of N, mostly a used one with one of these maps.
-    fn slot(&mut self, network: &[u8], maps: &[u8]) -> [u8; 2] {
+    /// A slot of N, mostly one with a message that this kind of event takes.
+    fn slot(&mut self, network: &[u8], kind: usize) -> [u8; 2] {
+        let takes = |slot: &[u8]| match kind {
+            2 => slot[0] == 0x30,
+            3 => matches!(slot[0], 0x29 | 0x39),
+            _ => matches!(slot, [0x27 | 0x3F | 0x3B, ..] | [0x39, _, 0, ..]),
+        };
         let used = used(network);
         if self.random.percent(4) {
             return [self.random.byte(8), self.random.next() as u8];
         }
         let mut slot = self.random.below(used + 1);
         for _ in 0..8 {
-            if network.get(SLOT * slot).is_some_and(|map| maps.contains(map)) || self.random.percent(4) {
+            if network.chunks_exact(SLOT).nth(slot).is_some_and(takes) || self.random.percent(4) {
                 break;
             }
             slot = self.random.below(used + 1);
@@ -483,9 +489,8 @@ impl Generator {
         let kind = self.random.of(&[0, 1, 2, 2, 3, 3, 3, 4, 4, 4, 4, 5, 6, 6, 7, 8]);
         let plan = self.plan;
         let who = self.random.byte([plan.rms, plan.acceptors, plan.leaders][[0, 0, 0, 1, 2, 2, 2, 2, 2][kind]]);
-        let maps: &[u8] = [&[0x30][..], &[0x29, 0x39], &[0x27, 0x3F, 0x3B]][[0, 0, 0, 1, 2, 0, 0, 0, 0][kind]];
         let [high, low] = match kind {
-            2..=4 => self.slot(&tables[N], maps),
+            2..=4 => self.slot(&tables[N], kind),
             5 => [self.random.byte(plan.rms), self.owned(who)],
             6 => {
                 // A 1b of its inbox says for what it may propose.
@@ -547,6 +552,10 @@ impl Generator {
                 } else {
                     Event::ChooseToAbort { rm }
                 }));
+                // The leader may hear the weight itself.
+                if self.random.percent(30) {
+                    wants.push_back(Want::Take(4, leader, [0x39, ins, 0, 0], 3));
+                }
             } else {
                 wants.push_back(Want::Make(Event::Phase1a { leader, ins, bal: ballot }));
                 for acc in missing..plan.acceptors {

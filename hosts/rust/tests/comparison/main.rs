@@ -11,9 +11,10 @@ mod reference;
 mod shrink;
 
 use case::{CALLS, Call, Case, Code, Engine, Linked, Mismatch, Op, Pair, Reference, Singles, Tables};
-use case::{I, N, S, part, refusal, standing, voted};
+use case::{I, N, S, decided, declined, range, refusal, standing, voted};
 use generator::Generator;
 use paxos_commit::Plan;
+use std::ops::Range;
 
 const SEED: u64 = 1;
 
@@ -27,8 +28,19 @@ fn number(variable: &str, otherwise: u64) -> u64 {
 /// What is counted: the calls, and the events in lists.
 const ROWS: usize = CALLS.len() + 1;
 
+/// Receipts outside of lists of a weight's own 2a, at ballot 0, and of what must not be taken for it.
+const RECEIPTS: [&str; 7] = [
+    "a 2a at ballot 0 for prepared",
+    "a 2a at ballot 0 for aborted, bit clear",
+    "the same, in the inbox already",
+    "a 2a at ballot 0 for aborted, bit set",
+    "a 2a at ballot 0, no room (14)",
+    "a 2a of another ballot (9)",
+    "a 2b for aborted beside that 2a, no majority, bit clear",
+];
+
 /// How often each call answered what: acceptances by kind (for the ending by its number, 0 for other calls without an
-/// event), and refusals; and so each event in a list.
+/// event), and refusals; so each event in a list; and the receipts above.
 #[derive(Default)]
 struct Seen {
     calls: usize,
@@ -36,6 +48,7 @@ struct Seen {
     longest: usize,
     accepted: [[usize; 9]; ROWS],
     refused: [[usize; 21]; ROWS],
+    receipts: [usize; RECEIPTS.len()],
 }
 
 impl Seen {
@@ -62,6 +75,58 @@ impl Seen {
             number => self.refused[row][usize::from(number)] += 1,
         }
     }
+
+    fn count_receipt(&mut self, plan: Plan, lent: &Tables, call: &Call, code: Code) {
+        let row = Receipt::of(plan, lent, call).and_then(|receipt| receipt.row(plan, lent, refusal(call, code)));
+        if let Some(row) = row {
+            self.receipts[row] += 1;
+        }
+    }
+}
+
+/// A receipt, whatever it is answered: the message in its slot, and the parts of I and of the summary that it is lent.
+struct Receipt {
+    message: [u8; 8],
+    inbox: Range<usize>,
+    own: Range<usize>,
+}
+
+impl Receipt {
+    fn of(plan: Plan, tables: &Tables, call: &Call) -> Option<Receipt> {
+        let (inbox, own) = match call {
+            Call::Step(event) => {
+                let who = *event.get(1)?;
+                let (inbox, own) = (plan.inbox_range(tables[I].len(), who)?, plan.summary_range(who)?);
+                ([inbox.start, inbox.end], [own.start, own.end])
+            }
+            Call::Leader(inbox, own, _) => (*inbox, *own),
+            _ => return None,
+        };
+        let &[4, _, high, low] = &call.event()?[..] else { return None };
+        let message = *tables[N].as_chunks().0.get(usize::from(u16::from_be_bytes([high, low])))?;
+        Some(Receipt { message, inbox: range(&tables[I], inbox), own: range(&tables[S], own) })
+    }
+
+    /// Whether the leader's part of the summary has no bit for aborted.
+    fn clear(&self, tables: &Tables, ins: u8) -> bool {
+        tables[S][self.own.clone()][usize::from(ins)] & 2 == 0
+    }
+
+    /// The row of `RECEIPTS` that it counts for, by its answer.
+    fn row(&self, plan: Plan, lent: &Tables, number: u8) -> Option<usize> {
+        match (self.message, number) {
+            ([0x39, _, 0, 1, ..], 0) => Some(0),
+            ([0x39, ins, 0, ..], 0) if !self.clear(lent, ins) => Some(3),
+            ([0x39, ins, 0, ..], 0) => Some(if declined(&lent[I][self.inbox.clone()], ins) { 2 } else { 1 }),
+            ([0x39, _, 0, ..], 14) => Some(4),
+            ([0x39, _, 1..=255, ..], 9) => Some(5),
+            ([0x3B, ins, _, _, 2, ..], 0) if self.clear(lent, ins) => {
+                let inbox = [&lent[I][self.inbox.clone()], &self.message].concat();
+                (declined(&inbox, ins) && !decided(plan, &inbox, ins, 2)).then_some(6)
+            }
+            _ => None,
+        }
+    }
 }
 
 /// Random histories up to so many calls; the first mismatch as its whole history.
@@ -75,8 +140,12 @@ fn compare(engines: [&dyn Engine; 2], seed: u64, calls: usize) -> (Seen, Option<
             let op = generator.next(&pair.tables[0]);
             let answer = pair.run(&op, history.ops.len());
             history.ops.push(op);
+            let Op { plan, call, .. } = &history.ops[history.ops.len() - 1];
             match answer {
-                Ok(code) => seen.count(&history.ops[history.ops.len() - 1].call, code, &pair.listed[0]),
+                Ok(code) => {
+                    seen.count(call, code, &pair.listed[0]);
+                    seen.count_receipt(*plan, &pair.lent, call, code);
+                }
                 Err(mismatch) => return (seen, Some((history, mismatch))),
             }
         }
@@ -126,6 +195,12 @@ fn linked_calls_and_reference_agree() {
             if numbers.contains(&number) && count < calls / 100_000 {
                 rare.push(format!("{name} answered {number} {count} times"));
             }
+        }
+    }
+    for (name, &count) in RECEIPTS.iter().zip(&seen.receipts) {
+        println!("receipt of {name}: {count}");
+        if count < calls / 100_000 {
+            rare.push(format!("receipt of {name} {count} times"));
         }
     }
     assert!(rare.is_empty(), "the calls were not mixed enough: {}", rare.join(", "));
@@ -195,7 +270,7 @@ impl Engine for Faulty {
 fn found(fault: Fault) -> (Case, Box<Mismatch>) {
     let faulty = Faulty(fault);
     let engines: [&dyn Engine; 2] = [&Reference, &faulty];
-    let (_, found) = compare(engines, number("PAXOS_COMMIT_SEED", SEED), 200_000);
+    let (_, found) = compare(engines, number("PAXOS_COMMIT_SEED", SEED), 1_000_000);
     let (case, mismatch) = found.expect("the planted fault is not found");
     let (case, mismatch) = shrink::shrink(engines, case, mismatch);
     (case, mismatch)
@@ -227,7 +302,8 @@ fn planted_fault_refuses_a_full_network_one_slot_early() {
         _ => None,
     });
     assert_eq!(case.ops.len(), 1);
-    assert_eq!(case.tables[N], [0; 8]);
+    // one slot, unused or with that message
+    assert_eq!(case.tables[N].len(), 8);
     assert_eq!(mismatch.answers, [0, 65536 + 13]);
 }
 
@@ -350,24 +426,15 @@ fn planted_fault_looks_at_the_summary_before_the_list() {
     assert!(case.tables[N].is_empty() && case.tables[I].is_empty(), "{case:?}");
 }
 
-/// The 2b in the slot that an event names: its instance, ballot and value.
-fn received(tables: &Tables, event: &[u8]) -> Option<[u8; 3]> {
-    let &[4, _, high, low] = event else { return None };
-    match tables[N].chunks(8).nth(u16::from_be_bytes([high, low]).into())? {
-        &[0x3B, ins, _, bal, val, ..] => Some([ins, bal, val]),
-        _ => None,
-    }
-}
-
 /// A leader's own receipt sets the bit only where the majority is at the ballot of the message.
 #[test]
 fn planted_fault_asks_for_a_majority_at_the_same_ballot() {
     let (case, mismatch) = found(|plan, tables, answers, call| {
-        let Call::Leader(inbox, _, event) = call else { return None };
-        let [ins, bal, val] = received(tables, event)?;
+        let receipt = Receipt::of(plan, tables, call)?;
+        let (Call::Leader(..), [0x3B, ins, _, bal, val, ..]) = (call, receipt.message) else { return None };
         let summary = tables[S].clone();
         let code = Reference.call(plan, tables, answers, call);
-        if code == 65535 && !voted(plan, part(&mut tables[I], *inbox), ins, bal, val) {
+        if code == 65535 && !voted(plan, &tables[I][receipt.inbox], ins, bal, val) {
             tables[S] = summary;
         }
         Some(code)
@@ -379,21 +446,29 @@ fn planted_fault_asks_for_a_majority_at_the_same_ballot() {
     assert!(mismatch.left[0][S].len() == 1 && mismatch.left[1][S] == [0], "{case:?}");
 }
 
-/// A 2b that is in the inbox already sets no bit.
+/// A message with this map that is in the inbox already sets no bit.
+fn leaves_a_repeated(map: u8, plan: Plan, tables: &mut Tables, answers: &mut [u8], call: &Call) -> Option<Code> {
+    Receipt::of(plan, tables, call).filter(|receipt| receipt.message[0] == map)?;
+    let (inboxes, summary) = (tables[I].clone(), tables[S].clone());
+    let code = Reference.call(plan, tables, answers, call);
+    if tables[I] == inboxes {
+        tables[S] = summary;
+    }
+    Some(code)
+}
+
+/// A 2b, or a weight's own 2a, that is in the inbox already sets no bit.
 #[test]
 fn planted_fault_leaves_a_repeated_vote() {
-    let (case, mismatch) = found(|plan, tables, answers, call| {
-        let (Call::Step(event) | Call::Leader(_, _, event)) = call else { return None };
-        received(tables, event)?;
-        let (inboxes, summary) = (tables[I].clone(), tables[S].clone());
-        let code = Reference.call(plan, tables, answers, call);
-        if tables[I] == inboxes {
-            tables[S] = summary;
-        }
-        Some(code)
-    });
-    assert_eq!((case.ops.len(), mismatch.answers), (1, [65535; 2]));
-    assert!(case.tables[N].len() == 8 && case.ops[0].plan.rms == 1, "{case:?}");
+    let faults: [Fault; 2] = [
+        |plan, tables, answers, call| leaves_a_repeated(0x3B, plan, tables, answers, call),
+        |plan, tables, answers, call| leaves_a_repeated(0x39, plan, tables, answers, call),
+    ];
+    for fault in faults {
+        let (case, mismatch) = found(fault);
+        assert_eq!((case.ops.len(), mismatch.answers), (1, [65535; 2]));
+        assert!(case.tables[N].len() == 8 && case.ops[0].plan.rms == 1, "{case:?}");
+    }
 }
 
 /// Commit by the inbox in place of the summary.
@@ -413,4 +488,48 @@ fn planted_fault_decides_by_the_inbox() {
     });
     let Plan { rms, acceptors, .. } = case.ops[0].plan;
     assert_eq!((case.ops.len(), rms, acceptors), (1, 1, 1));
+}
+
+/// A 2a of any ballot is taken for the weight's own.
+#[test]
+fn planted_fault_takes_a_proposal_of_a_leader() {
+    let (case, mismatch) = found(|plan, tables, answers, call| {
+        Receipt::of(plan, tables, call).filter(|receipt| receipt.message[0] == 0x39)?;
+        let code = Reference.call(plan, tables, answers, call);
+        Some(if code == 65536 + 9 { 65535 } else { code })
+    });
+    assert_eq!((case.ops.len(), mismatch.answers), (1, [65536 + 9, 65535]));
+    assert_eq!(case.tables[N], [0x39, 0, 1, 1, 0, 0, 0, 0]);
+}
+
+/// A weight's own 2a for prepared sets that bit, as one for aborted does.
+#[test]
+fn planted_fault_takes_a_prepared_weight_for_decided() {
+    let (case, mismatch) = found(|plan, tables, answers, call| {
+        let Receipt { message: [0x39, ins, 0, 1, ..], own, .. } = Receipt::of(plan, tables, call)? else { return None };
+        let code = Reference.call(plan, tables, answers, call);
+        if code == 65535 {
+            tables[S][own][usize::from(ins)] |= 1;
+        }
+        Some(code)
+    });
+    assert_eq!((case.ops.len(), mismatch.answers), (1, [65535; 2]));
+    assert_eq!(mismatch.left.map(|tables| tables[S].iter().sum::<u8>()), [0, 1]);
+}
+
+/// A vote for aborted sets the bit where the weight's own 2a is in the inbox, though no majority has voted.
+#[test]
+fn planted_fault_hears_a_weight_by_a_vote() {
+    let (case, mismatch) = found(|plan, tables, answers, call| {
+        let receipt = Receipt::of(plan, tables, call)?;
+        let [0x3B, ins, _, _, 2, ..] = receipt.message else { return None };
+        let code = Reference.call(plan, tables, answers, call);
+        if code == 65535 && declined(&tables[I][receipt.inbox], ins) {
+            tables[S][receipt.own][usize::from(ins)] |= 2;
+        }
+        Some(code)
+    });
+    let Plan { rms, acceptors, .. } = case.ops[0].plan;
+    assert_eq!((case.ops.len(), rms, acceptors), (1, 1, 2));
+    assert_eq!(mismatch.left.map(|tables| tables[S].iter().sum::<u8>()), [0, 2]);
 }

@@ -38,19 +38,24 @@ pub(crate) fn step(
 ) -> Result<Sent, u8> {
     let Event { kind, high: ins, low: bal, .. } = event;
     if kind == 4 {
-        let message = network.message(event.slot()).ok_or(refusal::SLOT)?;
-        let (Message::Phase1b { .. } | Message::Phase2b { .. }) = message else {
+        let &slot = network.used().get(event.slot()).ok_or(refusal::SLOT)?;
+        let message = Message::of(&slot);
+        let (Message::Phase1b { .. } | Message::Phase2b { .. } | Message::Phase2a { bal: 0, .. }) = message else {
             return Err(refusal::KIND);
         };
-        let slot = message.slot(plan);
         let at = inbox.place(&slot).ok_or(refusal::INBOX_FULL)?;
         inbox.put(at, slot);
-        if let Message::Phase2b { ins, val, .. } = message {
-            // A value is its own bit.
-            let standing = &mut summary[usize::from(ins)];
-            if *standing & val == 0 && decided(plan, inbox.used(), ins, val) {
-                *standing |= val;
+        // A value is its own bit.
+        match message {
+            Message::Phase2b { ins, val, .. } => {
+                let standing = &mut summary[usize::from(ins)];
+                if *standing & val == 0 && decided(plan, inbox.used(), ins, val) {
+                    *standing |= val;
+                }
             }
+            // The weight has declined: its instance can choose nothing else.
+            Message::Phase2a { ins, val: ABORTED, .. } => summary[usize::from(ins)] |= ABORTED,
+            _ => {}
         }
         return Ok(Sent::Quiet);
     }

@@ -1,15 +1,17 @@
 //! Document 01 in Rust by hand, with the order number, the list, the lengths,
-//! the owners of ballots and the summary of document 02, Papers 1 to 5, for the
-//! tests and the benchmark of the crate above; it is no part of it.
+//! the owners of ballots, the summary and the early abort of document 02, Papers
+//! 1 to 6, for the tests and the benchmark of the crate above; it is no part of
+//! it.
 //! Document 01's part was written from the document alone, by someone who had
 //! not seen the proved source; the delivery and the ending, which the document
 //! has not as calls, from their description (see `host`). The order number was
 //! added from Paper 1's text, by someone who had seen the proved byte form, and
 //! the list from Paper 2's, without sight of the proved list call; Phase2a got
 //! its blocks of slots then. Lengths are counted and ballots owned as the text
-//! of Papers 3 and 4 says. The summary is from Paper 5's text and the readings
-//! of its open points, without sight of the proved one. The tests use its
-//! public functions only.
+//! of Papers 3 and 4 says. The summary and the early abort are from the text of
+//! Papers 5 and 6 and the readings of their open points, without sight of the
+//! proved ones; with Paper 6 a receipt came to copy its slot, where it had
+//! written the message anew. The tests use its public functions only.
 //!
 //! A record is five byte tables, lent to every call:
 //!
@@ -18,7 +20,8 @@
 //! * `network` (N): slots of eight bytes, the used ones first;
 //! * `inboxes` (I): one such row of slots for each leader;
 //! * `summary`: a byte for each leader and instance, bit 0 when that inbox
-//!   decides prepared, bit 1 when it decides aborted.
+//!   decides prepared, bit 1 when it decides aborted or has the weight's own 2a
+//!   for aborted, at ballot 0.
 //!
 //! Tables and events may be any bytes of any length. A call that refuses
 //! returns the number of its refusal (see [`refusal`]) and changes no byte.
