@@ -1,9 +1,10 @@
--- Three short lists of calls from a fresh record: one weight, one acceptor, one leader, six slots in N and in the inbox. Between them every
+-- Short lists of calls from fresh records. Between the first three, of one weight, one acceptor, one leader and six slots in N and in the inbox, every
 -- kind is accepted, and an order ends committed or aborted, so what is proved of accepted calls and of lists of calls is not proved of nothing.
 --     order, fresh          the plan and the fresh record
 --     committing, aborting, declining; committing-list, mixing     the lists of calls; the first as one list; lists among event calls
 --     spread, heard         three weights, three acceptors and two leaders; two weights, one acceptor and two leaders
 --     pair, pairFresh, declined     two weights, three acceptors and one leader: a weight declines, and the order is aborted though no acceptor has voted
+--     overruled             one weight, three acceptors and two leaders: prepared is chosen though a leader has proposed aborted, at ballot 1
 --     received              the summary after one receipt on tables given byte by byte
 --     on, onSummary, unused, atBallot     the answer of one event call on tables given byte by byte
 --     Computed, computed    what all of these come to, in numbers and bytes: each field is a theorem
@@ -12,18 +13,19 @@
 --         places                where each call puts its bytes in the five tables
 --         summaries             which byte of the summary a receipt sets, and kinds 7 and 8, which read it alone
 --         declines              an order that is aborted early, and which 2a messages a leader takes and marks (document 02, Paper 6)
+--         later-ballot          why a 2a for aborted at a later ballot is not one of them
 --         order-examples        an old map, a bad field of another order, other orders by either byte, and a Commit of this order and of another
 --         owners                who owns which ballots, with two, three and four leaders
---         refusals              each number of the event call
+--         refusals, event-refusals     each number of the event call
 -- Assumes nothing.
 use Prim.Native.Nat.{ℕ}
 use mathlib.Core.List.{List, [], _∷_, _++_, map}
 use mathlib.Core.Path.{_≡_, refl}
 use lib.Count.{ones}
-use lib.ListN.{replicate}
+use lib.ListN.{take, drop, replicate}
 use Rattle.message.specs.declared.Plan.{Plan}
 use Rattle.message.specs.declared.Message.the-variants.{Decision}
-use Rattle.message.specs.Outcome.{Outcome, accepted, refused, andThen, refuseIf}
+use Rattle.message.specs.Outcome.{Outcome, accepted, refused, andThen, refuseIf, numberOf}
 use Rattle.message.specs.Plan.{isPlan, isCount}
 use Rattle.message.specs.Form.{isValue, isVote, isInRange, bytesOf, bytesOf1b, messageLength, slotOf, isKnown, mapLength, fieldsMessage, decode, hasOrder}
 use Rattle.message.specs.Codec.{readMessage}
@@ -118,7 +120,40 @@ declined =
     ∷ event (2 ∷ 1 ∷ 0 ∷ 2 ∷ [])
     ∷ []
 
--- the leader of that plan takes what N has in its one slot, beside an inbox of two slots and on a summary: the summary afterwards
+-- the weight prepares and acceptor 0 votes; leader 0, which hears from acceptors 1 and 2 alone, proposes aborted at ballot 1, and leader 1 may not take that
+-- 2a; at ballot 2 leader 1 hears of the vote, proposes prepared, and it is chosen, announced and taken
+abbrev pub overruling : Plan
+overruling = record { rms = 1; acceptors = 3; leaders = 2; order = 0x0102 }
+
+abbrev pub overruledFresh : Tables
+overruledFresh = tablesOf (replicate 1 0) (replicate 9 0) (replicate 104 0) (replicate 80 0) (replicate 2 0)
+
+abbrev pub overruled : List Call
+overruled =
+    event (0 ∷ 0 ∷ 0 ∷ 0 ∷ [])
+    ∷ event (3 ∷ 0 ∷ 0 ∷ 0 ∷ [])
+    ∷ event (5 ∷ 0 ∷ 0 ∷ 1 ∷ [])
+    ∷ event (3 ∷ 1 ∷ 0 ∷ 2 ∷ [])
+    ∷ event (3 ∷ 2 ∷ 0 ∷ 2 ∷ [])
+    ∷ event (4 ∷ 0 ∷ 0 ∷ 3 ∷ [])
+    ∷ event (4 ∷ 0 ∷ 0 ∷ 4 ∷ [])
+    ∷ event (6 ∷ 0 ∷ 0 ∷ 1 ∷ [])
+    ∷ event (4 ∷ 1 ∷ 0 ∷ 5 ∷ [])
+    ∷ event (5 ∷ 1 ∷ 0 ∷ 2 ∷ [])
+    ∷ event (3 ∷ 0 ∷ 0 ∷ 6 ∷ [])
+    ∷ event (3 ∷ 1 ∷ 0 ∷ 6 ∷ [])
+    ∷ event (4 ∷ 1 ∷ 0 ∷ 7 ∷ [])
+    ∷ event (4 ∷ 1 ∷ 0 ∷ 8 ∷ [])
+    ∷ event (6 ∷ 1 ∷ 0 ∷ 2 ∷ [])
+    ∷ event (3 ∷ 0 ∷ 0 ∷ 9 ∷ [])
+    ∷ event (3 ∷ 1 ∷ 0 ∷ 9 ∷ [])
+    ∷ event (4 ∷ 1 ∷ 0 ∷ 10 ∷ [])
+    ∷ event (4 ∷ 1 ∷ 0 ∷ 11 ∷ [])
+    ∷ event (7 ∷ 1 ∷ 0 ∷ 0 ∷ [])
+    ∷ event (2 ∷ 0 ∷ 0 ∷ 12 ∷ [])
+    ∷ []
+
+-- the leader of `pair` takes what N has in its one slot, beside an inbox of two slots and on a summary: the summary afterwards
 abbrev pub received : List ℕ → List ℕ → List ℕ → List ℕ
 received n i s = recordStep pair (tablesOf (replicate 2 0) (replicate 18 0) n i s) (4 ∷ 0 ∷ 0 ∷ 0 ∷ []) .tables .summary
 
@@ -212,6 +247,12 @@ pub record Computed : Type 0 where
       × (on (0 ∷ []) (0 ∷ 0 ∷ 0 ∷ []) (0x39 ∷ 0 ∷ 1 ∷ 2 ∷ 1 ∷ 2 ∷ 0 ∷ 0 ∷ []) unused (4 ∷ 0 ∷ 0 ∷ 0 ∷ []) ≡ refused 9)
       × (on (0 ∷ []) (0 ∷ 0 ∷ 0 ∷ []) (0x39 ∷ 0 ∷ 2 ∷ 2 ∷ 1 ∷ 2 ∷ 0 ∷ 0 ∷ []) unused (4 ∷ 0 ∷ 0 ∷ 0 ∷ []) ≡ refused 9)
       × (on (0 ∷ []) (0 ∷ 0 ∷ 0 ∷ []) (0x39 ∷ 0 ∷ 1 ∷ 2 ∷ 1 ∷ 2 ∷ 0 ∷ 0 ∷ []) (0x27 ∷ 0 ∷ 0 ∷ 2 ∷ 1 ∷ 2 ∷ 0 ∷ 0 ∷ []) (4 ∷ 0 ∷ 0 ∷ 0 ∷ []) ≡ refused 9)
+  -- a 2a for aborted at a later ballot is no reason to abort: "It is possible for an instance of the Paxos algorithm to choose the value Prepared even
+  -- though a leader has sent a phase 2a message (for a ballot number greater than 0) with value Aborted" (document 001, section 4.2)
+  pub later-ballot :
+      (map numberOf (answers overruling overruledFresh overruled) ≡ replicate 8 0 ++ (9 ∷ replicate 12 0))
+      × (take 8 (drop 40 (tablesAfter overruling overruledFresh overruled .network)) ≡ 0x39 ∷ 0 ∷ 1 ∷ 2 ∷ 1 ∷ 2 ∷ 0 ∷ 0 ∷ [])
+      × (tablesAfter overruling overruledFresh overruled .states ≡ 2 ∷ [])
   -- the order number is 0102 (document 02, Paper 1)
   pub order-examples : map (readMessage order)
       ((0x19 ∷ 0 ∷ 0 ∷ 1 ∷ [])
@@ -230,7 +271,7 @@ pub record Computed : Type 0 where
       × (map (atBallot 4 5 1) (0 ∷ 1 ∷ 2 ∷ 5 ∷ 254 ∷ []) ≡ refused 10 ∷ refused 10 ∷ accepted (Slot 0) ∷ refused 10 ∷ accepted (Slot 0) ∷ [])
       × (map (atBallot 4 5 3) (0 ∷ 1 ∷ 3 ∷ 4 ∷ 255 ∷ []) ≡ refused 10 ∷ refused 10 ∷ refused 10 ∷ accepted (Slot 0) ∷ refused 10 ∷ [])
       × (map (atBallot 4 6 2) (0 ∷ 2 ∷ 3 ∷ 255 ∷ []) ≡ refused 10 ∷ refused 10 ∷ refused 12 ∷ refused 12 ∷ [])
-  -- each row of "Refusals by place" for the event call, in bytes
+  -- each row of "Refusals by place" for the event call, in bytes: the plan, the tables and that the event is one; then the event's own rows
   pub refusals :
       (recordStep (record { rms = 0; acceptors = 1; leaders = 1; order = 0x0102 }) (tablesOf [] [] [] [] []) (0 ∷ 0 ∷ 0 ∷ 0 ∷ []) .answer ≡ refused 1)
       × (on (0 ∷ 0 ∷ []) (0 ∷ 0 ∷ 0 ∷ []) unused unused (0 ∷ 0 ∷ 0 ∷ 0 ∷ []) ≡ refused 2)
@@ -248,7 +289,8 @@ pub record Computed : Type 0 where
       × (onSummary unused [] (0 ∷ 0 ∷ 0 ∷ 0 ∷ []) ≡ refused 20)
       × (on (0 ∷ []) (0 ∷ 0 ∷ 0 ∷ []) unused unused (0 ∷ 0 ∷ 0 ∷ 0 ∷ 0 ∷ []) ≡ refused 7)
       × (on (0 ∷ []) (0 ∷ 0 ∷ 0 ∷ []) unused unused (9 ∷ 0 ∷ 0 ∷ 0 ∷ []) ≡ refused 7)
-      × (on (0 ∷ []) (0 ∷ 0 ∷ 0 ∷ []) unused unused (2 ∷ 0 ∷ 0 ∷ 0 ∷ []) ≡ refused 8)
+  pub event-refusals :
+      (on (0 ∷ []) (0 ∷ 0 ∷ 0 ∷ []) unused unused (2 ∷ 0 ∷ 0 ∷ 0 ∷ []) ≡ refused 8)
       × (on (0 ∷ []) (0 ∷ 0 ∷ 0 ∷ []) (0x29 ∷ 0 ∷ 1 ∷ 1 ∷ 2 ∷ 0 ∷ 0 ∷ 0 ∷ []) unused (2 ∷ 0 ∷ 0 ∷ 0 ∷ []) ≡ refused 9)
       × (on (0 ∷ []) (0 ∷ 0 ∷ 0 ∷ []) (0x30 ∷ 1 ∷ 1 ∷ 2 ∷ 0 ∷ 0 ∷ 0 ∷ 0 ∷ []) unused (3 ∷ 0 ∷ 0 ∷ 0 ∷ []) ≡ refused 9)
       × (on (0 ∷ []) (0 ∷ 0 ∷ 0 ∷ []) (0x39 ∷ 0 ∷ 1 ∷ 1 ∷ 1 ∷ 2 ∷ 0 ∷ 0 ∷ []) unused (4 ∷ 0 ∷ 0 ∷ 0 ∷ []) ≡ refused 9)
@@ -278,7 +320,9 @@ computed =
       places = refl;
       summaries = (refl, refl, refl, refl, refl);
       declines = (refl, refl, refl, refl, refl, refl, refl, refl, refl, refl, refl, refl, refl, refl, refl);
+      later-ballot = (refl, refl, refl);
       order-examples = refl;
       owners = (refl, refl, refl, refl, refl, refl);
-      refusals = (refl, refl, refl, refl, refl, refl, refl, refl, refl, refl, refl, refl, refl, refl, refl, refl, refl, refl, refl, refl, refl, refl, refl, refl, refl, refl, refl);
+      refusals = (refl, refl, refl, refl, refl, refl, refl, refl, refl, refl, refl, refl, refl, refl, refl, refl);
+      event-refusals = (refl, refl, refl, refl, refl, refl, refl, refl, refl, refl, refl);
     }
