@@ -1,3 +1,4 @@
+#![tactic(auto)]
 // The step of an acceptor, kind 3, on tables that were judged: Phase1b and Phase2b of document 001. It is lent Q and N. The call by
 // itself, which judges the tables first, is the crate acceptor_call.
 //

@@ -1,3 +1,4 @@
+#![tactic(auto)]
 // The step of an acceptor, kind 3, as a call by itself, on tables that nobody has judged. It is lent Q and N.
 //
 //     judge      the plan and both tables: rows 1, 2, 4 and 5 of "Refusals by place"

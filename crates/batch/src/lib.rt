@@ -1,3 +1,4 @@
+#![tactic(auto)]
 // A list of events on one record (document 02, Papers 2 and 5): the tables are judged once, then the events run in order.
 //
 //     is_list        row 19 of "Refusals by place"

@@ -1,3 +1,4 @@
+#![tactic(auto)]
 // Makes calls of the reader, the writer and the three role steps, and prints a line for each (document 01, "Message bytes", "The nine
 // events", "Refusals by place"; document 02, Paper 5).
 //
@@ -18,7 +19,7 @@ const MAX_CALLS: usize = 65536;
 
 // Which call (0 resource manager, 1 acceptor, 2 leader, 3 reader, 4 writer), the plan, and the lengths of the role's table, of the summary,
 // which only a leader has, of the network and of the bytes: an event, the reader's slice, or the writer's message.
-#[derive(Drop)]
+#[derive(Clone, Copy)]
 struct Head {
     call: u8,
     plan: Plan,

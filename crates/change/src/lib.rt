@@ -1,3 +1,4 @@
+#![tactic(auto)]
 // What the steps of all roles come to: the answer, and the change that an accepted event makes to a role's own table (W, Q or one inbox)
 // and to N. A step is decided first, from tables that it only reads, and stored afterwards, so a refusal changes no byte.
 //
@@ -24,14 +25,14 @@ use message::Plan;
 use slots::Store;
 
 // What an accepted event returns: the first slot of N where the sent message stands, or quiet for kinds 2 and 4.
-#[derive(Drop)]
+#[derive(Clone, Copy)]
 pub enum Sent {
     Slot(usize),
     Quiet,
 }
 
 // A step's answer: the acceptance, or the refusal's number.
-#[derive(Drop)]
+#[derive(Clone, Copy)]
 pub enum Answer {
     Accepted(Sent),
     Refused(u8),
@@ -49,7 +50,7 @@ pub fn answer_number(answer: Answer) -> u8
 
 // What an accepted event changes in the role's own table: a state in W, an acceptor's three bytes of an instance in Q from `at` on, or
 // what is stored in an inbox.
-#[derive(Drop)]
+#[derive(Clone, Copy)]
 pub enum Update {
     State {
         who: usize,
@@ -65,7 +66,7 @@ pub enum Update {
 }
 
 // What an accepted event changes, and what it returns.
-#[derive(Drop)]
+#[derive(Clone, Copy)]
 pub struct Change {
     pub table: Update,
     pub network: Store,
@@ -73,7 +74,7 @@ pub struct Change {
 }
 
 // What an event comes to, decided before anything is stored.
-#[derive(Drop)]
+#[derive(Clone, Copy)]
 pub enum Verdict {
     Accepted(Change),
     Refused(u8),
@@ -129,7 +130,7 @@ pub fn apply(plan: Plan, table: &mut [u8], network: &mut [u8], verdict: Verdict)
 }
 
 // Whether a plan and tables are sound, or the refusal's number.
-#[derive(Drop)]
+#[derive(Clone, Copy)]
 pub enum Judged {
     Sound,
     Refused(u8),

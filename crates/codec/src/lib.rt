@@ -1,3 +1,4 @@
+#![tactic(auto)]
 // The reader and the writer (document 01, "Message bytes"; document 02, Paper 1): from a slice to the message that it is, and back.
 //
 //     decode_message                 the message that the bytes of a known map make

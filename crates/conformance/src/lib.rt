@@ -1,1 +1,2 @@
+#![tactic(auto)]
 // No code: the event call of the record and the published actions.

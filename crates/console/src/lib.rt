@@ -1,3 +1,4 @@
+#![tactic(auto)]
 // Standard input, standard output and standard error, for the programs.
 //
 //     Input, read_input     what standard input gave: how many bytes, or that it can't be read
@@ -11,7 +12,7 @@ ghost use Rattle.console.specs.Console.{Filled};
 use libc::{STDERR_FILENO, STDIN_FILENO, STDOUT_FILENO};
 
 // So many bytes, or a read that failed.
-#[derive(Drop)]
+#[derive(Clone, Copy)]
 pub enum Input {
     Bytes(usize),
     Failed,

@@ -1,3 +1,4 @@
+#![tactic(auto)]
 // Decided for one instance and value, as a leader reads it from its inbox: one pass over the slots before the edge.
 //
 //     vote_step             the acceptor of a 2b joins the set of its ballot, and whether that is a majority

@@ -1,1 +1,2 @@
+#![tactic(auto)]
 // No code: the demands, stated side by side.

@@ -1,3 +1,4 @@
+#![tactic(auto)]
 // How an order stands: every resource manager (document 01: weight) committed, every one aborted, or open. For the last line of the
 // rehearsal (document 01, "The rehearsal").
 //
@@ -11,7 +12,7 @@ ghost use Rattle.ending.specs.Ending.{are_all, ending_of};
 use tcommit::RmState;
 
 // How an order stands.
-#[derive(Drop)]
+#[derive(Clone, Copy)]
 pub enum Ending {
     Committed,
     Aborted,

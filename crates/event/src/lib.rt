@@ -1,3 +1,4 @@
+#![tactic(auto)]
 // The four bytes of an event (document 01, "The nine events").
 //
 //     EVENT_SIZE        how many they are

@@ -1,3 +1,4 @@
+#![tactic(auto)]
 // Makes stored histories on the record, each some event calls and list calls from an opened record or from given tables, and prints after
 // each call its answer and a digest of the five tables (document 01, "The plan and four tables", "The nine events", "Refusals by place";
 // document 02, Papers 2 and 5).
@@ -31,7 +32,7 @@ const LIST: u8 = 255;
 
 // How the record begins (0 zeros and opened, 1 given tables and opened, 2 given tables; 4 more where the tables are not shown at the end),
 // and the plan.
-#[derive(Drop)]
+#[derive(Clone, Copy)]
 struct Head {
     mode: u8,
     plan: Plan,

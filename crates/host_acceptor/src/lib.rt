@@ -1,3 +1,4 @@
+#![tactic(auto)]
 // The step of an acceptor, kind 3, for other languages: numbers and byte slices in, one number out. It is lent
 // Q (`votes`) and N (`network`). Its static library has no other role's code.
 ghost use Rattle.std.specs.Prelude.{◌≡◌};

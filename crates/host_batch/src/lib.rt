@@ -1,3 +1,4 @@
+#![tactic(auto)]
 // The list call for other languages: a backlog of events on one record. Numbers and byte slices in, one number out.
 //
 //     paxos_commit_run     many events in order, and an answer for each

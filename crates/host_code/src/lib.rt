@@ -1,3 +1,4 @@
+#![tactic(auto)]
 // The numbers that the calls for other languages (the crates host_*) answer. It depends on no role, so each role's library has them
 // without another role's code.
 //

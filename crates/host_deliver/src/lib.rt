@@ -1,3 +1,4 @@
+#![tactic(auto)]
 // A delivery for other languages: what comes from the wire goes into a host's N. Numbers and byte slices in, one number out.
 //
 //     paxos_commit_deliver     what came to a host, put into its N

@@ -1,3 +1,4 @@
+#![tactic(auto)]
 // The step of a leader, kinds 4 to 8, for other languages: numbers and byte slices in, one number out. It is lent
 // its inbox, its part of the summary and N (`network`). Its static library has no other role's code.
 ghost use Rattle.std.specs.Prelude.{◌≡◌};

@@ -1,3 +1,4 @@
+#![tactic(auto)]
 // The reader and the writer for other languages: numbers and a byte slice in, one number out.
 //
 //     paxos_commit_read       the message that a slice is

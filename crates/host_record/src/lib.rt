@@ -1,3 +1,4 @@
+#![tactic(auto)]
 // Opening, the event call and the ending for other languages: numbers and byte slices in, one number out. They are lent W (`states`), and the
 // first two Q (`votes`), N (`network`), I (`inboxes`) and the summary too, of any content and length.
 //

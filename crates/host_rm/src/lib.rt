@@ -1,3 +1,4 @@
+#![tactic(auto)]
 // The step of a resource manager (document 01: a weight), kinds 0, 1 and 2, for other languages: numbers and byte slices in, one
 // number out. It is lent W (`states`) and N (`network`). Its static library has no other role's code.
 ghost use Rattle.std.specs.Prelude.{◌≡◌};

@@ -1,3 +1,4 @@
+#![tactic(auto)]
 // What a leader reads from its inbox for Phase2a, in one pass over the slots before the edge.
 //
 //     higher_vote, report_step         what one slot more shows
@@ -23,7 +24,7 @@ use message::{
 
 // What Phase2a asks of the inbox: whether a 2a of the instance and ballot is there, whether the acceptors with a 1b are a majority, the
 // highest vote report, and how many messages there are, which is the place of the next one.
-#[derive(Drop)]
+#[derive(Clone, Copy)]
 pub struct Reports {
     pub proposed: bool,
     pub quorum: bool,
@@ -32,7 +33,7 @@ pub struct Reports {
 }
 
 // What the slots passed so far have shown of it, with the acceptors as a set.
-#[derive(Drop)]
+#[derive(Clone, Copy)]
 struct Gathered {
     proposed: bool,
     mask: u8,

@@ -1,3 +1,4 @@
+#![tactic(auto)]
 // Judging an order record: rows 1 to 6 of "Refusals by place" (document 01), whatever the event. It is lent W (`states`), Q (`votes`), N
 // (`network`) and I (`inboxes`), of any content and length.
 ghost use Rattle.std.specs.Prelude.{◌≡◌};

@@ -1,3 +1,4 @@
+#![tactic(auto)]
 // The step of a leader, kinds 4 to 8, on tables that were judged: receipt, and Phase1a, Phase2a and Decide of document 001. It is lent
 // one inbox, N and its bytes of the summary; it reads Decided from the summary alone, and Phase2a's conditions from the inbox alone (the crate
 // phase2a). The call by itself, which judges the tables first, is the crate leader_call.

@@ -1,3 +1,4 @@
+#![tactic(auto)]
 // The step of a leader, kinds 4 to 8, as a call by itself, on tables that nobody has judged. It is lent one inbox, its bytes of the
 // summary and N.
 //

@@ -1,3 +1,4 @@
+#![tactic(auto)]
 // The plan of an order, the messages, and their one byte form (document 01, "The plan and four tables" and "Message bytes").
 //
 //     Plan, is_plan                  the three counts, and refusal 1; the order number
@@ -18,7 +19,7 @@ ghost use Rattle.message.specs.Plan.{is_plan};
 ghost use Rattle.message.specs.Form.{is_value, is_vote, is_in_range, slot_of, is_known, map_length};
 
 // The plan of an order: how many resource managers (document 01: weights), acceptors and leaders it has, and its number (document 02, Paper 1).
-#[derive(Drop)]
+#[derive(Clone, Copy)]
 pub struct Plan {
     pub rms: u8,
     pub acceptors: u8,
@@ -37,14 +38,14 @@ pub fn is_plan(plan: Plan) -> bool
 }
 
 // What a 1b says of the acceptor's last vote: none, or its ballot and value (document 01: the vote report).
-#[derive(Drop)]
+#[derive(Clone, Copy)]
 pub enum Vote {
     None,
     Cast { bal: u8, val: u8 },
 }
 
 // A message, with raw bytes in its fields: instance, acceptor, ballots, value.
-#[derive(Drop)]
+#[derive(Clone, Copy)]
 pub enum Message {
     Phase1a {
         ins: u8,
@@ -174,7 +175,7 @@ pub fn in_range(plan: Plan, m: Message) -> bool
 }
 
 // A message, or a refusal's number: the reader's answer, a slot's, and what a leader would propose.
-#[derive(Drop)]
+#[derive(Clone, Copy)]
 pub enum Read {
     Message(Message),
     Refused(u8),
@@ -239,7 +240,7 @@ pub fn encode(plan: Plan, m: Message) -> [u8; SLOT_SIZE]
 }
 
 // The writer's answer: number 0, a message followed by zeros and its length; or the refusal's number, zeros and 0.
-#[derive(Drop)]
+#[derive(Clone, Copy)]
 pub struct Written {
     pub number: u8,
     pub bytes: [u8; SLOT_SIZE],

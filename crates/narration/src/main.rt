@@ -1,3 +1,4 @@
+#![tactic(auto)]
 // The rehearsal in words, for people: reads what the rehearsal reads (document 01, "The rehearsal"), and says for each event what was
 // tried, with the message that its slot holds, what the call answered, with the message that was sent or the weight that is heard to decline,
 // and the row of states afterwards.
@@ -52,7 +53,7 @@ const STATES: [u8; 47] = *b" working| prepared| committed| aborted| unknown";
 const TEXT_SIZE: usize = 512;
 
 // What is said: the first bytes of a buffer.
-#[derive(Drop)]
+#[derive(Clone, Copy)]
 struct Text {
     bytes: [u8; TEXT_SIZE],
     end: usize,

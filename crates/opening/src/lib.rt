@@ -1,3 +1,4 @@
+#![tactic(auto)]
 // The tables of an order record: their lengths, and opening them (document 01, "The plan and four tables"; document 02, Paper 5).
 //
 //     are_lengths, judge_lengths     rows 1 and 2 of "Refusals by place"

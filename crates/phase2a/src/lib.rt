@@ -1,3 +1,4 @@
+#![tactic(auto)]
 // Phase2a, kind 6 of a leader (documents 001 and 01), on tables that were judged: the 2a that the messages of its inbox allow, sent to N and
 // kept in the inbox; and which ballots a leader owns.
 //
@@ -46,7 +47,7 @@ fn proposal_of(vote: Vote) -> u8
 }
 
 // The 2a that Phase2a sends, or its refusal; and with a 2a its place, after the messages of the inbox. With a refusal the place says nothing.
-#[derive(Drop)]
+#[derive(Clone, Copy)]
 struct Proposal {
     answer: Read,
     place: usize,

@@ -1,3 +1,4 @@
+#![tactic(auto)]
 // Sets of acceptors as the bits of a byte, bit a for acceptor a, and majorities (document 01: 2 × size > A).
 //
 //     insert_bit      an acceptor joins a set

@@ -1,3 +1,4 @@
+#![tactic(auto)]
 // The order record: the event call of all nine kinds (document 01, "The plan and four tables" and "Refusals by place"; document 02, Paper 5). Opening a record is the
 // crate `opening`, judging one the crate `judging`, what an event comes to on it the crate `verdict`. Message bytes are below the roles' steps, and
 // these below `verdict`, which sees only what each role promises.

@@ -1,3 +1,4 @@
+#![tactic(auto)]
 // The number that a slice is refused with by the reader (document 01, "Message bytes"; document 02, Paper 1: 18), map by map.
 //
 //     refusal_1a, ..         a slice whose map is known: 16, 17 or 0

@@ -1,3 +1,4 @@
+#![tactic(auto)]
 // The rehearsal (document 01, "The rehearsal") as a program: reads standard input, and writes what `rehearsing::rehearse` makes of it. Where
 // a read or a write fails it says so on standard error; after a failed read it prints nothing else.
 //

@@ -1,3 +1,4 @@
+#![tactic(auto)]
 // The input of a rehearsal (document 01, "The rehearsal"), for the rehearsal and for the same in words.
 //
 //     MAX_INPUT                             the bytes of a plan and of 8,192 events
@@ -17,7 +18,7 @@ const PLAN_SIZE: usize = 5;
 pub const MAX_INPUT: usize = 32773;
 
 // The plan that an input begins with, or the refusal's number.
-#[derive(Drop)]
+#[derive(Clone, Copy)]
 pub enum PlanRead {
     Given(Plan),
     Refused(u8),

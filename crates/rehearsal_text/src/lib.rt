@@ -1,3 +1,4 @@
+#![tactic(auto)]
 // The text of a rehearsal (document 01, "The rehearsal"), for the rehearsal and for the same in words.
 //
 //     put_words, put_line, put_ending      a text at a place of a lent buffer: where it ends

@@ -1,3 +1,4 @@
+#![tactic(auto)]
 // The rehearsal (document 01, "The rehearsal") as a function of its input: makes the events on a fresh record, all whole ones by one list call,
 // and puts a line for each into a lent buffer, 0 or the refusal; last one of three words. A plan that is bad or cut gives only 1.
 //

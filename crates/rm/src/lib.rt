@@ -1,3 +1,4 @@
+#![tactic(auto)]
 // The step of a resource manager (document 01: a weight), kinds 0, 1 and 2, on tables that were judged: RMPrepare, RMChooseToAbort,
 // RMRcvCommitMsg and RMRcvAbortMsg of document 001. It is lent W and N. The call by itself, which judges the tables first, is the crate
 // rm_call.

@@ -1,3 +1,4 @@
+#![tactic(auto)]
 // The step of a resource manager (document 01: a weight), kinds 0, 1 and 2, as a call by itself, on tables that nobody has judged. It is
 // lent W and N.
 //

@@ -1,3 +1,4 @@
+#![tactic(auto)]
 // Looking for a message in a table, and what sending one comes to. In a table that nobody judged it looks at the slots before the edge,
 // whatever they hold.
 //

@@ -1,3 +1,4 @@
+#![tactic(auto)]
 // Slot tables: the network N, or one inbox, as a slice of bytes (document 01, "The plan and four tables").
 //
 //     is_table_length                  row 2 of "Refusals by place": whole slots, at most 1,024
@@ -94,7 +95,7 @@ pub fn edge(table: &[u8]) -> usize
 }
 
 // Where a message stands in a table that was judged before, where it may be appended, or that there is no room.
-#[derive(Drop)]
+#[derive(Clone, Copy)]
 pub enum Place {
     At(usize),
     Free(usize),
@@ -127,14 +128,14 @@ fn store_message(plan: Plan, table: &mut [u8], place: usize, m: Message)
 }
 
 // What a step stores in a table: nothing, or a message in the slot at a place.
-#[derive(Drop)]
+#[derive(Clone, Copy)]
 pub enum Store {
     Keep,
     Put { place: usize, m: Message },
 }
 
 // What sending a message comes to: the first slot where it then stands, with what is stored for it, or no room.
-#[derive(Drop)]
+#[derive(Clone, Copy)]
 pub enum Send {
     Slot { slot: usize, store: Store },
     NoRoom,

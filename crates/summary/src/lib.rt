@@ -1,3 +1,4 @@
+#![tactic(auto)]
 // The summary (document 02, Papers 5 and 6): beside an inbox a byte for each instance, bit 0 when prepared is Decided, bit 1 when aborted is or the
 // weight has declined.
 //

@@ -1,3 +1,4 @@
+#![tactic(auto)]
 // Judging tables: N, or N and so many inboxes. Every slot is unused or a readable message with zeros after it, and used slots come first.
 //
 //     zeros::is_zero         whether a part is zeros alone, in one pass without a branch (zeros.rt)
@@ -194,7 +195,7 @@ fn lane(
 }
 
 // What the slots passed so far have shown at each place: zeros while all of their bytes lay within their bounds.
-#[derive(Drop)]
+#[derive(Clone, Copy)]
 struct Lanes {
     b0: u8,
     b1: u8,

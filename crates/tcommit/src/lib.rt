@@ -1,10 +1,11 @@
+#![tactic(auto)]
 // The states of a resource manager as numbers (document 01: a weight's state), for the table W and for Transaction Commit.
 // The machine itself is in specs/TCommit.antt.
 ghost use Rattle.std.specs.Prelude.{◌≡◌, [], ◌∷◌};
 ghost use Rattle.tcommit.specs.RmState.{working, prepared, committed, aborted};
 
 // A resource manager's state, by its number.
-#[derive(Drop)]
+#[derive(Clone, Copy)]
 pub struct RmState {
     pub number: u8,
 }

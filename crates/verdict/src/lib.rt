@@ -1,3 +1,4 @@
+#![tactic(auto)]
 // What an event comes to on an order record, before anything is stored (document 01, "Refusals by place", from row 7 on). Judging a record is the
 // crate `judging`, storing what is accepted the crate `record`. Both functions see only what each role promises, and judge no table.
 //

@@ -1,3 +1,4 @@
+#![tactic(auto)]
 // Judging Q, the acceptors' votes: row 4 of "Refusals by place" (document 01).
 //
 //     either, over, sign, gather      what two bytes leave where they are not in order, without a branch
