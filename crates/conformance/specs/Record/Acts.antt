@@ -124,7 +124,7 @@ module _ (p : Plan) (t : Tables) (e : List ℕ) where
   leader_acts sure large ok = go (ℕ_discrete (kind_of e) 4) (ℕ_discrete (kind_of e) 5) (ℕ_discrete (kind_of e) 6) (ℕ_discrete (kind_of e) 7)
     where
       who : who_of e < p.leaders
-      who = leader_who p e sure.event-is large
+      who = leader_who p e sure.event_is large
 
       took : LeaderTook.Took p (stands (own_summary p t e)) (own_inbox p t e) t.network e
       took = LeaderOwn.own_took p (own_inbox p t e) (own_summary p t e) t.network e ok
@@ -187,14 +187,14 @@ module _ (p : Plan) (t : Tables) (e : List ℕ) where
       go (yes k) d5 d6 d7 = receipt_acts k
       go (no n4) (yes k) d6 d7 =
           let (a, s, i) = Match.leader_phase1a p (own_inbox p t e) (own_summary p t e) t.network e w q ok k in
-          opens_ballot k who (event_instance p e sure.event-is (omega arith) (omega arith)) (owned_1a k) a s (same_inboxes (λ four. omega arith) i)
+          opens_ballot k who (event_instance p e sure.event_is (omega arith) (omega arith)) (owned_1a k) a s (same_inboxes (λ four. omega arith) i)
       go (no n4) (no n5) (yes k) d7 =
           let (a, is, s, stores) = Match.leader_phase2a p (own_inbox p t e) (own_summary p t e) t.network e w q ok k in
-          proposes k who (event_instance p e sure.event-is (omega arith) (omega arith)) (owned_2a k) a is s (leader_part p t e).step.table stores (with_inbox_lem (λ four. omega arith))
+          proposes k who (event_instance p e sure.event_is (omega arith) (omega arith)) (owned_2a k) a is s (leader_part p t e).step.table stores (with_inbox_lem (λ four. omega arith))
       go (no n4) (no n5) (no n6) (yes k) =
           let (a, s, i) = Match.leader_commit p (own_inbox p t e) (own_summary p t e) t.network e w q ok k in commits k who a s (same_inboxes (λ four. omega arith) i)
       go (no n4) (no n5) (no n6) (no n7) =
-          let last = (event_parts p e sure.event-is).kind in
+          let last = (event_parts p e sure.event_is).kind in
           let k : kind_of e ≡ 8 = omega arith in
           let (a, s, i) = Match.leader_abort p (own_inbox p t e) (own_summary p t e) t.network e w q ok k in aborts k who a s (same_inboxes (λ four. omega arith) i)
 
@@ -203,11 +203,11 @@ module _ (p : Plan) (t : Tables) (e : List ℕ) where
     where
       go : Taken p t e → Role e → Does (record_step p t e)
       go sure (rm h) =
-          let same = sure.is-role ∙ role_rm p t e h in
-          rw same (rm_acts sure.event-is h (sent, ap (λ (r : RecordStep). r.answer) (sym same) ∙ is))
+          let same = sure.is_role ∙ role_rm p t e h in
+          rw same (rm_acts sure.event_is h (sent, ap (λ (r : RecordStep). r.answer) (sym same) ∙ is))
       go sure (acceptor h) =
-          let same = sure.is-role ∙ role_acceptor p t e h in
-          rw same (acceptor_acts sure.event-is h (sent, ap (λ (r : RecordStep). r.answer) (sym same) ∙ is))
+          let same = sure.is_role ∙ role_acceptor p t e h in
+          rw same (acceptor_acts sure.event_is h (sent, ap (λ (r : RecordStep). r.answer) (sym same) ∙ is))
       go sure (leader h) =
-          let same = sure.is-role ∙ role_leader p t e sure.tables sure.right sure.event-is h in
+          let same = sure.is_role ∙ role_leader p t e sure.tables sure.right sure.event_is h in
           rw same (leader_acts sure h (sent, ap (λ (r : RecordStep). r.answer) (sym same) ∙ is))

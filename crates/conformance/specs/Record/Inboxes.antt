@@ -40,15 +40,15 @@ module _ (p : Plan) (t : Tables) (e : List ℕ) where
   inbox_kept l member apart = go (record_step p t e).answer refl
     where
       by : Taken p t e → Role e → Kept l (record_step p t e)
-      by u (rm h) = rw (u.is-role ∙ role_rm p t e h) refl
-      by u (acceptor h) = rw (u.is-role ∙ role_acceptor p t e h) refl
+      by u (rm h) = rw (u.is_role ∙ role_rm p t e h) refl
+      by u (acceptor h) = rw (u.is_role ∙ role_acceptor p t e h) refl
       by u (leader h) = other apart
         where
           some : 0 < p.leaders
           some = (plan_bounds p u.tables.plan).leaders_least
 
           who : who_of e < p.leaders
-          who = leader_who p e u.event-is h
+          who = leader_who p e u.event_is h
 
           size : length (leader_part p t e).step.table ≡ inbox_size p t.inboxes
           size =
@@ -59,7 +59,7 @@ module _ (p : Plan) (t : Tables) (e : List ℕ) where
           other : (kind_of e ≤ 3) ⊎ (l ≡ who_of e → ⊥) → Kept l (record_step p t e)
           other (inl small) = absurd (omega arith)
           other (inr n) =
-              rw (u.is-role ∙ role_leader p t e u.tables u.right u.event-is h)
+              rw (u.is_role ∙ role_leader p t e u.tables u.right u.event_is h)
               (inbox_of_with_other p t.inboxes (who_of e) some who (leader_part p t e).step.table size l member n)
 
       go : (o : Outcome Sent) → (record_step p t e).answer ≡ o → Kept l (record_step p t e)

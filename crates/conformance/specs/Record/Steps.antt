@@ -251,5 +251,5 @@ module _ (p : Plan) (t : Tables) (e : List ℕ) where
       go (refused k) is = rw (keeps k is) j
       go (accepted sent) is =
           let u = taken sent is in
-          let (after, right) = role_sound u.tables u.right u.event-is in
-          rw u.is-role (lent_judged_lem p _ (judged p _ after) right)
+          let (after, right) = role_sound u.tables u.right u.event_is in
+          rw u.is_role (lent_judged_lem p _ (judged p _ after) right)

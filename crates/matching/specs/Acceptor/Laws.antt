@@ -205,9 +205,9 @@ module _ (p : Plan) (votes network e : List ℕ) where
       where
         go : (m : Wire.Message) → InSlot p network e m → acceptor_receive p votes (view_table p network) (who_of e) m ≡ accepted t.change
             → SoundAfter after
-        go (Phase1a ins bal) is taken = (promised ins bal is).1.sound-after
+        go (Phase1a ins bal) is taken = (promised ins bal is).1.sound_after
         go (Phase1b ins acc mbal vote) is taken = absurd (accepted_not_refused taken)
-        go (Phase2a ins bal val) is taken = (voted ins bal val is).1.sound-after
+        go (Phase2a ins bal val) is taken = (voted ins bal val is).1.sound_after
         go (Phase2b ins acc bal val) is taken = absurd (accepted_not_refused taken)
         go (Decision val) is taken = absurd (accepted_not_refused taken)
 

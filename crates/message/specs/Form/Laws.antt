@@ -38,7 +38,8 @@ pub message_cases : (P : Message → Type 0)
     → ((val : ℕ) → P (Decision val))
     → (m : Message) → P m
 message_cases P a n c b d e (Phase1a ins bal) = a ins bal
-message_cases P a n c b d e (Phase1b ins acc mbal vote) = elim vote [ None ↦ n ins acc mbal | Cast bal val ↦ c ins acc mbal bal val ]
+message_cases P a n c b d e (Phase1b ins acc mbal vote) =
+    elim vote as (λ v. P (Phase1b ins acc mbal v)) [ None ↦ n ins acc mbal | Cast bal val ↦ c ins acc mbal bal val ]
 message_cases P a n c b d e (Phase2a ins bal val) = b ins bal val
 message_cases P a n c b d e (Phase2b ins acc bal val) = d ins acc bal val
 message_cases P a n c b d e (Decision val) = e val

@@ -27,14 +27,14 @@ module _ {RM Acceptor : ℕ → Type 0} {Majority : (ℕ → Bool) → Type 0} {
     where
       go : (r : Bal) → (s.a_state i acc).bal ≡ r → at_most r (ballot b)
       go minus_one e = tt
-      go (ballot c) e = let low = (inv.voted acc i c _ (inv.last-vote i acc c q member e)).1 in omega arith
+      go (ballot c) e = let low = (inv.voted acc i c _ (inv.last_vote i acc c q member e)).1 in omega arith
 
   pub inv_phase1b : (i b : ℕ) → Phase1bOn RM Acceptor Majority acc i b s s' → Inv RM Acceptor Majority s'
   inv_phase1b i b (asked, lower, e, sent, row) =
       let q = (inv.ranges _ asked).0 in
       acts i _ _ e sent row (q, member)
-      (λ here. (rw here (omega arith), λ c. inv.last-vote i acc c q member, λ c w vote l. (inv.voted acc i c w vote).2, λ r w h. let low = inv.promised i b r w acc h in omega arith))
-      (omega arith, at_most_refl (s.a_state i acc).bal, λ c m n k. (sent _).1 (inl (inv.last-vote i acc c m n k)))
+      (λ here. (rw here (omega arith), λ c. inv.last_vote i acc c q member, λ c w vote l. (inv.voted acc i c w vote).2, λ r w h. let low = inv.promised i b r w acc h in omega arith))
+      (omega arith, at_most_refl (s.a_state i acc).bal, λ c m n k. (sent _).1 (inl (inv.last_vote i acc c m n k)))
 
   pub inv_phase2b : (i b : ℕ) (v : Val) → Phase2bOn RM Acceptor Majority acc i b v s s' → Inv RM Acceptor Majority s'
   inv_phase2b i b v (asked, lower, e, sent, row) =

@@ -62,7 +62,7 @@ module _ {RM Acceptor : ℕ → Type 0} {Majority : (ℕ → Bool) → Type 0} {
     pub proposed_first : (i : ℕ) → Decided RM Acceptor Majority s.msgs i prepared → s.msgs (phase2a i 0 prepared)
     proposed_first i (b, MS, many, votes) =
         let (a, member, again) = meet MS MS many many in
-        inv.prepared-first i b (inv.voted a i b prepared (votes a member)).0
+        inv.prepared_first i b (inv.voted a i b prepared (votes a member)).0
 
     refused_not_chosen : (i : ℕ) → Refused RM Acceptor Majority s.msgs i → Decided RM Acceptor Majority s.msgs i prepared → ⊥
     refused_not_chosen i (inl r) d = unlike (one_chosen i prepared aborted d r)

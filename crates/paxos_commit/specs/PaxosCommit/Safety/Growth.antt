@@ -68,7 +68,7 @@ module _ {RM Acceptor : ℕ → Type 0} {Majority : (ℕ → Bool) → Type 0} {
   growth_one_value i b v w (inr h) (inr k) = let e = g.single _ _ h k in cc
 
   growth_prepared_first : (i b : ℕ) → Sent (phase2a i b prepared) → s'.msgs (phase2a i b prepared) → s'.msgs (phase2a i 0 prepared)
-  growth_prepared_first i b (inl h) k = g.kept _ (inv.prepared-first i b h)
+  growth_prepared_first i b (inl h) k = g.kept _ (inv.prepared_first i b h)
   growth_prepared_first i b (inr h) k = ⊎_elim (λ e. rw e at k) (g.kept _) ((g.fits _ h).1.1 refl)
 
   growth_voted : (a i b : ℕ) (v : Val) → Sent (phase2b a i b v)
@@ -84,7 +84,7 @@ module _ {RM Acceptor : ℕ → Type 0} {Majority : (ℕ → Bool) → Type 0} {
   growth_promised i m r v a (inr h) = (g.fits _ h).1.0
 
   growth_one_report : (i m : ℕ) (r q : Bal) (v w : Val) (a : ℕ) → Sent (phase1b i m r v a) → Sent (phase1b i m q w a) → (r ≡ q) × (v ≡ w)
-  growth_one_report i m r q v w a (inl h) (inl k) = inv.one-report i m r q v w a h k
+  growth_one_report i m r q v w a (inl h) (inl k) = inv.one_report i m r q v w a h k
   growth_one_report i m r q v w a (inl h) (inr k) = absurd ((g.fits _ k).1.3 r v h)
   growth_one_report i m r q v w a (inr h) (inl k) = absurd ((g.fits _ h).1.3 q w k)
   growth_one_report i m r q v w a (inr h) (inr k) = let e = g.single _ _ h k in (cc, cc)
@@ -150,7 +150,7 @@ module _ {RM Acceptor : ℕ → Type 0} {Majority : (ℕ → Bool) → Type 0} {
 module _ {RM Acceptor : ℕ → Type 0} {Majority : (ℕ → Bool) → Type 0} {s : State} (inv : Inv RM Acceptor Majority s) where
   pub stays : (msgs : Message → Type 0) → ((x : Message) → s.msgs x → msgs x)
       → (i a : ℕ) → Moved RM Acceptor msgs i a (s.a_state i a) (s.a_state i a)
-  stays msgs kept i a = (omega arith, at_most_refl (s.a_state i a).bal, λ b q k e. kept _ (inv.last-vote i a b q k e))
+  stays msgs kept i a = (omega arith, at_most_refl (s.a_state i a).bal, λ b q k e. kept _ (inv.last_vote i a b q k e))
 
   module _ {s' : State} where
     pub inv_sends : (m : Message) → Send RM Acceptor Majority m s s' → IsMessage RM Acceptor Majority m → Fits RM Acceptor Majority s s' m

@@ -53,7 +53,7 @@ module _ {RM Acceptor : ℕ → Type 0} {Majority : (ℕ → Bool) → Type 0} {
 
   proposal_prepared : Origin → v ≡ prepared → (b ≡ 0) ⊎ s.msgs (phase2a i 0 prepared)
   proposal_prepared (inl (e, d)) k = let z : ◌≡◌ {A = ℕ} 0 1 = cc in absurd (omega arith)
-  proposal_prepared (inr (c, e, h)) k = inr (inv.prepared-first i c (rw k at h))
+  proposal_prepared (inr (c, e, h)) k = inr (inv.prepared_first i c (rw k at h))
 
   -- a member of MS has promised b, and has no vote below b that is above the highest report
   promise : (a : ℕ) → MS a ≡ true → (b ≤ (s.a_state i a).mbal) × ((c : ℕ) (w : Val) → s.msgs (phase2b a i c w) → c < b → at_most (ballot c) p.0)
@@ -106,7 +106,7 @@ module _ {RM Acceptor : ℕ → Type 0} {Majority : (ℕ → Bool) → Type 0} {
     back : (r : Bal) (w : Val) (a : ℕ) → In s.msgs r w a → In seen r w a
     back r w a (h, m) =
         let (q, u, (k, again)) = heard a m in
-        let (d, e) = inv.one-report i b r q w u a h (sub _ k) in
+        let (d, e) = inv.one_report i b r q w u a h (sub _ k) in
         (rw (d, e) k, m)
 
     maximum_of_part : (n : Bal) → Maximum (λ r. (w : Val) × (a : ℕ) × In seen r w a) n → Maximum (λ r. (w : Val) × (a : ℕ) × In s.msgs r w a) n
