@@ -20,17 +20,17 @@ use Rattle.message.specs.Codec.{read_outcome}
 
 pub ruleset guards = (tt, lt-ltb, le-ltb, le-leb, lt-leb, eq-eqb, ne_eqb, arith)
 
-pub passed : {r b : Bool} → r ≡ b → not r ≡ false → b ≡ true
-passed {r} e left = sym e ∙ not-false r left
+pub passed : {r b : Bool} → r ≡ b → r ≡ true → b ≡ true
+passed e left = sym e ∙ left
 
-pub failed : {r b : Bool} → r ≡ b → not r ≡ true → b ≡ false
-failed {r} e taken = sym e ∙ not-true r taken
+pub failed : {r b : Bool} → r ≡ b → r ≡ false → b ≡ false
+failed e taken = sym e ∙ taken
 
 pub within : {n m k : ℕ} → n ≡ m → k < m → k < n
 within e p = omega arith
 
-pub told : {r b t : Bool} → r ≡ b → not r ≡ t → not b ≡ t
-told e h = ap not (sym e) ∙ h
+pub told : {r b t : Bool} → r ≡ b → r ≡ t → not b ≡ not t
+told e h = ap not (sym e ∙ h)
 
 module _ {A : Type 0} (b : Bool) (k : ℕ) (rest : Outcome A) where
   pub halt : b ≡ true → refused k ≡ refuse_if b k rest

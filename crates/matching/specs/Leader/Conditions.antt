@@ -11,7 +11,7 @@ use Prim.Native.Nat.{ℕ, zero, suc, ◌+◌, ◌≤◌, ◌<◌, zero-le, suc-l
 use Rattle.std.specs.Prelude.{Bool, false, ◌&&◌, cond, ◌≡◌, refl, ltb, leb, eqb}
 use Rattle.std.proofs.Math.Bool.{true}
 use Rattle.std.proofs.lemmas.Bool.{false≢true}
-use mathlib.Core.List.{List, ◌∷◌, Memᴰ}
+use mathlib.Core.List.{List, [], ◌∷◌, Memᴰ}
 use Rattle.std.proofs.Common.{sym, ◌∙◌, ap, ap₂, subst, arith}
 use borrow.Author.Tests.{lt-ltb, eq-eqb, ltb-true, eqb-true, eqb-false, leb-true}
 use Rattle.message.specs.declared.Plan.{Plan}
@@ -31,6 +31,7 @@ use Rattle.matching.specs.Leader.{DecidedIn}
 
 pub in_range_lem : (p : Plan) (ms : List Message) (m : Message) → all_in_range p ms ≡ true → Memᴰ m ms → is_in_range p m ≡ true
 unfolding all_in_range
+in_range_lem p [] m h absent = elim absent [ ]
 in_range_lem p (x ∷ ms) m h (Memᴰ.head e) = ap (is_in_range p) e ∙ (both (is_in_range p x) (all_in_range p ms) h).0
 in_range_lem p (x ∷ ms) m h (Memᴰ.tail d) = in_range_lem p ms m (both (is_in_range p x) (all_in_range p ms) h).1 d
 

@@ -102,6 +102,7 @@ module _ (i b : ℕ) where
   highest_bound : (ms : List Message) (a : ℕ) (vote : Vote) → Memᴰ (Phase1b i a b vote) ms
       → Source.at_most (bal_of vote) (bal_of (highest_report i b ms))
   unfolding highest_report
+  highest_bound [] a vote absent = elim absent [ ]
   highest_bound (x ∷ ms) a vote (Memᴰ.head e) =
       subst (λ (u : Vote). Source.at_most (bal_of u) (bal_of (higher (report_of i b x) (highest_report i b ms))))
       (ap (report_of i b) (sym e) ∙ report_self a vote)

@@ -1,0 +1,22 @@
+-- `deliver::deliver` meets its contract: what was judged, and what was then put. Assumes nothing.
+use mathlib.Core.Path.{sym, ◌∙◌, ap}
+use Rattle.change.specs.Change.{judged_outcome}
+use borrow.Author.Rules.{rules}
+use Rattle.deliver.proofs.Putting.{deliver_refused, deliver_sound}
+use Rattle.deliver.proofs.deliver.Goals as goal
+
+-- where N was found sound; where the message was put
+abbrev sound : tie.After-put → tie.After-enum-told
+sound c = c.before.before
+
+abbrev put : tie.After-slice-known2 → tie.After-put
+put c = c.before.before
+
+-- the two returns
+pub returns-in-Refused : goal.returns-in-Refused
+returns-in-Refused c = deliver_refused _ _ _ _ (sym (ap judged_outcome c.in-Refused.is) ∙ c.judge-judged.ensures)
+
+pub returns-in-Sound : goal.returns-in-Sound
+returns-in-Sound c =
+    let at = sound (put c) in
+    deliver_sound _ _ _ (sym (ap judged_outcome at.enum_told.given.1) ∙ at.before.before.judge.ensures) _ (put c).put.ensures

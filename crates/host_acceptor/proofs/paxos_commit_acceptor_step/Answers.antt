@@ -1,0 +1,8 @@
+-- `host_acceptor::paxos_commit_acceptor_step` meets its contract: the step, and the number of its answer. Assumes nothing.
+use borrow.Author.Rules.{rules}
+use Rattle.host_code.specs.Code.Laws.{coded}
+use Rattle.host_acceptor.proofs.paxos_commit_acceptor_step.Goals as goal
+
+pub returns : goal.returns
+returns c =
+    coded c.step.ensures c.answer_code.ensures

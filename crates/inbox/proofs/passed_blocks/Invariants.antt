@@ -1,0 +1,13 @@
+-- The loop of `inbox::passed_blocks`.
+use Prim.Native.Nat.{◌-◌, ◌≤◌}
+use native.Mathlib.Omega.{arith}
+use borrow.Author.Rules.{rules}
+use Rattle.inbox.specs.Inbox.Blocks.{AllPassed}
+use Rattle.inbox.proofs.Skipping.{all_none, all_join}
+use Rattle.inbox.proofs.passed_blocks.Given as goal
+
+abbrev pub invariant-loop-place : goal.invariant-loop-place
+invariant-loop-place l = (l.from ≤ l.place) × (l.place ≤ l.used) × AllPassed l.instance l.ballot l.inbox l.from l.place
+
+abbrev pub decreases-loop-place : goal.decreases-loop-place
+decreases-loop-place l = l.used - l.place

@@ -1,9 +1,0 @@
--- `message::byte_at` meets its contract: past the end `get_or` gives its default. Assumes nothing.
-use mathlib.Core.Path.{sym}
-use lib.ListN.{get_or-eq_default}
-use borrow.Author.Rules.{rules}
-use Rattle.message.proofs.byte_at.Statement.{statement}
-use Rattle.message.proofs.byte_at.Tie as tie
-
-pub byte_at_spec : {M : Type 1} → statement M
-byte_at_spec = tie.close (tie.spec (λ c. search rules) (λ c. search rules) (λ c. sym (get_or-eq_default c.before.args.bytes.now 0 c.if1.false)))

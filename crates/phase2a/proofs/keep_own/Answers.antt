@@ -1,0 +1,9 @@
+-- `phase2a::keep_own` meets its contract: the branch decides whether there is room in the inbox. Assumes nothing.
+use Rattle.phase2a.specs.Phase2a.Own.{keep_next, keep_full}
+use Rattle.phase2a.proofs.keep_own.Goals as goal
+
+pub returns-then-inbox-place : goal.returns-then-inbox-place
+returns-then-inbox-place c = keep_full _ _ _ _ c.requires _ _ c.if-inbox-place.true
+
+pub returns : goal.returns
+returns c = keep_next _ _ _ _ c.requires _ _ c.if-inbox-place.false

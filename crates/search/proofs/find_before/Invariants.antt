@@ -1,0 +1,13 @@
+-- The loop of `search::find_before`.
+use Prim.Native.Nat.{◌-◌, zero-le}
+use native.Mathlib.Omega.{arith}
+use lib.Dec.{lit≤}
+use Rattle.search.specs.Blocks.{Passed}
+use Rattle.search.proofs.Blocks.{row_further, found_end, found_row, passed_row}
+use Rattle.search.proofs.find_before.Given as goal
+
+abbrev pub invariant-loop-place : goal.invariant-loop-place
+invariant-loop-place l = Passed l.table l.form 0 l.end l.place
+
+abbrev pub decreases-loop-place : goal.decreases-loop-place
+decreases-loop-place l = l.end - l.place

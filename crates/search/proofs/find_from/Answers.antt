@@ -1,0 +1,20 @@
+-- `search::find_from` meets its contract: no slot before `place` is the form. Assumes nothing.
+use Prim.Native.Nat.{◌-◌}
+use borrow.Author.Rules.{rules}
+use Rattle.search.specs.Blocks.{Passed}
+use Rattle.search.proofs.Blocks.{passed_start, passed_one, found_end, found_here}
+use Rattle.search.proofs.Look.{is_form_lem, not_form}
+use Rattle.search.proofs.find_from.Goals as goal
+
+pub loop-place-init : goal.loop-place-init
+loop-place-init c = passed_start _ _ _ _ c.requires.0
+
+pub returns-then-eight_from-form : goal.returns-then-eight_from-form
+returns-then-eight_from-form c = found_here _ _ _ _ _ c.loop-place.invariant (is_form_lem c.eight_from.ensures c.if-eight_from-form.true)
+
+pub loop-place-preserved : goal.loop-place-preserved
+loop-place-preserved c =
+    passed_one _ _ _ _ _ c.loop-place-test.true c.loop-place.invariant (not_form c.eight_from.ensures c.if-eight_from-form.false)
+
+pub returns : goal.returns
+returns c = found_end _ _ _ _ _ c.loop-place-test.false c.loop-place.invariant

@@ -1,0 +1,6 @@
+-- `search::form_of` meets its contract: the bytes are the message's slot. Assumes nothing.
+use borrow.Author.Rules.{rules}
+use Rattle.search.proofs.form_of.Goals as goal
+
+pub returns : goal.returns
+returns c = rw (← c.encode-form.ensures) c.eight_from.ensures

@@ -1,0 +1,13 @@
+-- The loop of `search::passed_to`.
+use Prim.Native.Nat.{◌-◌}
+use native.Mathlib.Omega.{arith}
+use borrow.Author.Rules.{rules}
+use Rattle.search.specs.Blocks.{Passed}
+use Rattle.search.proofs.Blocks.{begins_form, passed_start, passed_more}
+use Rattle.search.proofs.passed_to.Given as goal
+
+abbrev pub invariant-loop-place : goal.invariant-loop-place
+invariant-loop-place l = Passed l.table l.form l.from l.end l.place
+
+abbrev pub decreases-loop-place : goal.decreases-loop-place
+decreases-loop-place l = l.end - l.place
