@@ -1,7 +1,7 @@
 #!/usr/bin/env python3
 """Runs the built programs rehearsal and narration on further inputs, and compares what they print with the model.
 
-    python3 tests/rehearsals.py         after `rt check rehearsal narration`; exit status 1 where one differs
+    python3 tests/rehearsals.py         after `rt ci`, or `rt run` in each; exit status 1 where one differs
 
 Plans that are bad or cut; events that are cut; 8,192 events, one fewer and one more, each also with a cut one after them; and random
 histories. The stored files hold one input for each program; the test command compares those and tests/rehearsed/, and needs none of this.
@@ -17,7 +17,7 @@ from model import MAX_EVENTS, plan_bytes, rehearse
 from narration import narrate
 from vectors import EXAMPLE
 
-BINARIES = pathlib.Path(__file__).resolve().parent.parent / "target" / "bin"
+CRATES = pathlib.Path(__file__).resolve().parent.parent / "crates"
 
 
 def inputs():
@@ -42,7 +42,7 @@ def main():
     differs = count = 0
     for text in inputs():
         for program, model in (("rehearsal", rehearse), ("narration", narrate)):
-            printed = subprocess.run([BINARIES / program], input=text, stdout=subprocess.PIPE, check=True).stdout.decode()
+            printed = subprocess.run([CRATES / program / "out" / program], input=text, stdout=subprocess.PIPE, check=True).stdout.decode()
             count += 1
             if printed != model(text):
                 differs += 1

@@ -2,12 +2,12 @@
 # Runs the rehearsal and the narration on each input below tests/rehearsed/, and compares what they print with the stored output, which
 # tests/stories.py describes.
 #
-#     tests/rehearsed.sh [DIR]     DIR holds the two programs; without it, target/bin of this repository
+#     tests/rehearsed.sh [DIR]     DIR holds the two programs; without it, those that `rt ci` built, in crates/NAME/out
 #
 # It prints nothing where all agree. Each difference is a sentence that names the file, and the exit status is then 1.
 set -eu
 here=$(dirname "$0")
-programs=${1-$here/../target/bin}
+programs=${1-}
 printed=$(mktemp)
 trap 'rm -f "$printed"' EXIT
 trap 'exit 1' HUP INT TERM
@@ -18,12 +18,15 @@ fault() {
     bad=1
 }
 
+# Where a program stands.
+built() { echo "${programs:-$here/../crates/$1/out}/$1"; }
+
 # compare NAME PROGRAM ENDING: what the program prints for NAME.in, or its last lines where the ending says so.
 compare() {
     stored=$here/rehearsed/$1.$3
     [ -f "$stored" ] || return 0
     compared=$((compared + 1))
-    if ! "$programs/$2" <"$here/rehearsed/$1.in" >"$printed"; then
+    if ! "$(built "$2")" <"$here/rehearsed/$1.in" >"$printed"; then
         fault "$2 failed on tests/rehearsed/$1.in"
         return 0
     fi
@@ -34,7 +37,7 @@ compare() {
 }
 
 for program in rehearsal narration; do
-    [ -x "$programs/$program" ] || fault "there is no program $programs/$program to run"
+    [ -x "$(built "$program")" ] || fault "there is no program $(built "$program") to run"
 done
 [ "$bad" -eq 0 ] || exit 1
 

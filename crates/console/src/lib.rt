@@ -5,11 +5,13 @@
 //     print                 the first bytes of a buffer on standard output: how many were written
 //     complain              a sentence on standard error: how many bytes were written
 //
-// A contract can't say what is read or written; these say how many bytes. No public function has a `requires`.
-ghost use Rattle.std.specs.Prelude.{◌≤◌, min, ◌≡◌, length};
-ghost use Rattle.console.specs.Console.{Filled};
+// Each is given the reader or the writer that it uses, as `rt.stdin()`. No contract can say what the system reads or writes, but how many
+// bytes; of a reader or a writer whose bytes are known these say which bytes. No public function has a `requires`.
+ghost use Rattle.std.specs.Io.KnownBytes.{Appends};
+ghost use Rattle.std.specs.Prelude.{◌≤◌, min, ◌≡◌, length, take};
+ghost use Rattle.console.specs.Console.{Filled, Taken};
 
-use libc::{STDERR_FILENO, STDIN_FILENO, STDOUT_FILENO};
+use std::io::{Read, Write};
 
 // So many bytes, or a read that failed.
 #[derive(Clone, Copy)]
@@ -19,17 +21,16 @@ pub enum Input {
 }
 
 // Reads standard input until the buffer is full or the input ends: how many bytes begin the buffer.
-pub fn read_input(buffer: &mut [u8]) -> Input
-    ensures { Filled result buffer.old buffer.new }
+pub fn read_input<R: Read>(stdin: &mut R, buffer: &mut [u8]) -> Input
+    ensures filled { Filled result buffer.old buffer.new }
+    ensures taken { Taken result (R.remaining stdin.old) (R.remaining stdin.new) buffer.new }
 {
     let mut done: usize = 0;
     while done < buffer.len() {
         let rest = &mut buffer[done..];
-        let got = libc::read(STDIN_FILENO, rest);
-        if got < 0 {
+        let Ok(more) = stdin.read(rest) else {
             return Input::Failed;
-        }
-        let more = io::count(got, rest);
+        };
         if more == 0 {
             return Input::Bytes(done);
         }
@@ -39,13 +40,16 @@ pub fn read_input(buffer: &mut [u8]) -> Input
 }
 
 // Writes bytes until all are written or a write fails: how many were written.
-fn write(descriptor: i32, bytes: &[u8]) -> usize
-    ensures { result ≤ length bytes.now }
+fn write<W: Write>(writer: &mut W, bytes: &[u8]) -> usize
+    ensures count { result ≤ length bytes.now }
+    ensures bytes { Appends (W.contents writer.old) (W.contents writer.new) (take result bytes.now) }
 {
     let mut done: usize = 0;
     while done < bytes.len() {
         let rest = &bytes[done..];
-        let taken = io::count(libc::write(descriptor, rest), rest);
+        let Ok(taken) = writer.write(rest) else {
+            return done;
+        };
         if taken == 0 {
             return done;
         }
@@ -62,16 +66,18 @@ fn least(a: usize, b: usize) -> usize
 
 // Writes the first `count` bytes of the buffer, or all where it has fewer, on standard output: how many were written, fewer where a
 // write fails.
-pub fn print(buffer: &[u8], count: usize) -> usize
-    ensures { result ≤ min count (length buffer.now) }
+pub fn print<W: Write>(stdout: &mut W, buffer: &[u8], count: usize) -> usize
+    ensures count { result ≤ min count (length buffer.now) }
+    ensures bytes { Appends (W.contents stdout.old) (W.contents stdout.new) (take result buffer.now) }
 {
     let end = least(count, buffer.len());
-    write(STDOUT_FILENO, &buffer[..end])
+    write(stdout, &buffer[..end])
 }
 
 // Writes a sentence on standard error: how many bytes were written.
-pub fn complain(sentence: &[u8]) -> usize
-    ensures { result ≤ length sentence.now }
+pub fn complain<W: Write>(stderr: &mut W, sentence: &[u8]) -> usize
+    ensures count { result ≤ length sentence.now }
+    ensures bytes { Appends (W.contents stderr.old) (W.contents stderr.new) (take result sentence.now) }
 {
-    write(STDERR_FILENO, sentence)
+    write(stderr, sentence)
 }

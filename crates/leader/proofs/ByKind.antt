@@ -1,5 +1,5 @@
 -- From the answers that `evaluate_kind` gets to the kinds of `leader_kind`: `o` is what the kind's own function answered.
---     kind-receipt, kind-phase1a, kind-phase2a, kind-commit, kind-abort
+--     kind_receipt, kind_phase1a, kind_phase2a, kind_commit, kind_abort
 -- Assumes nothing.
 use Prim.Native.Nat.{ℕ}
 use mathlib.Core.Bool.{Bool, true, not}

@@ -4,7 +4,6 @@ use mathlib.Core.Path.{sym, ◌∙◌, ap}
 use borrow.Author.Tests.{eq-eqb, ne_eqb}
 use Rattle.message.proofs.Guards.{told, halt, pass, reader_refused, reader_accepted}
 use Rattle.acceptor.specs.Acceptor.{acceptor_receive, acceptor_verdict}
-use borrow.Author.Rules.{rules}
 use Rattle.acceptor.proofs.evaluate.Goals as goal
 
 pub returns-then-not-is_plan : goal.returns-then-not-is_plan

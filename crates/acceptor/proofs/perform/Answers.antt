@@ -1,6 +1,5 @@
 -- `acceptor::perform` meets its contract: what was evaluated is applied. Assumes nothing.
 use Rattle.change.proofs.Stepping.{apply_verdict}
-use borrow.Author.Rules.{rules}
 use Rattle.acceptor.proofs.perform.Goals as goal
 
 pub returns : goal.returns

@@ -1,6 +1,5 @@
 -- `acceptor::phase2b_of` meets its contract: each return is a case of `phase2b`. Assumes nothing.
 use Rattle.acceptor.proofs.Deciding.{phase2b_behind, phase2b_sent, phase2b_full}
-use borrow.Author.Rules.{rules}
 use Rattle.acceptor.proofs.phase2b_of.Goals as goal
 
 pub returns-then-bal-mbal : goal.returns-then-bal-mbal

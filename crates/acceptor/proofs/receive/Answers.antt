@@ -1,6 +1,5 @@
 -- `acceptor::receive` meets its contract: it matches as `acceptor_receive` does. Assumes nothing.
 use Rattle.acceptor.specs.Acceptor.{acceptor_receive}
-use borrow.Author.Rules.{rules}
 use Rattle.acceptor.proofs.receive.Goals as goal
 
 pub returns-in-Phase1a : goal.returns-in-Phase1a

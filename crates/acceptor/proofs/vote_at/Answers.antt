@@ -3,20 +3,19 @@ use Rattle.acceptor.specs.Acceptor.{vote_at}
 use mathlib.Core.Path.{refl}
 use Rattle.message.specs.Plan.Laws.{bytes_bound}
 use native.Mathlib.Omega.{arith}
-use borrow.Author.Rules.{rules}
 use Rattle.acceptor.proofs.vote_at.Goals as goal
 
 pub overflow_mul-result : goal.overflow_mul-result
 unfolding vote_at
-overflow_mul-result c = omega (arith, bytes_bound c.args.ins c.args.plan.acceptors c.ranges.ins.fits c.struct_known-1.given.1.0.fits)
+overflow_mul-result c = omega (arith, bytes_bound c.args.ins c.args.plan.acceptors c.ranges.ins.fits (omega arith))
 
 pub overflow_add-result : goal.overflow_add-result
 unfolding vote_at
-overflow_add-result c = omega (arith, bytes_bound c.args.ins c.args.plan.acceptors c.ranges.ins.fits c.struct_known-1.given.1.0.fits)
+overflow_add-result c = omega (arith, bytes_bound c.args.ins c.args.plan.acceptors c.ranges.ins.fits (omega arith))
 
 pub overflow_mul-result-2 : goal.overflow_mul-result-2
 unfolding vote_at
-overflow_mul-result-2 c = omega (arith, bytes_bound c.args.ins c.args.plan.acceptors c.ranges.ins.fits c.struct_known-1.given.1.0.fits)
+overflow_mul-result-2 c = omega (arith, bytes_bound c.args.ins c.args.plan.acceptors c.ranges.ins.fits (omega arith))
 
 pub returns : goal.returns
 unfolding vote_at

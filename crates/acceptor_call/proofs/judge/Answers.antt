@@ -6,7 +6,6 @@ use borrow.Author.Tests.{eq-eqb, ne_eqb}
 use Rattle.message.proofs.Guards.{told, halt, pass}
 use Rattle.acceptor.specs.Acceptor.{acceptor_judged}
 use Rattle.message.specs.Plan.Laws.{bytes_bound}
-use borrow.Author.Rules.{rules}
 use Rattle.acceptor_call.proofs.judge.Goals as goal
 
 -- row 1
@@ -15,10 +14,10 @@ unfolding acceptor_judged
 returns-then-not-is_plan c = halt _ _ _ (told c.is_plan.ensures c.if-not-is_plan.true)
 
 pub overflow_mul-plan : goal.overflow_mul-plan
-overflow_mul-plan c = omega (arith, bytes_bound _ _ c.struct_known-1.given.0.fits c.struct_known-2-1.given.1.0.fits)
+overflow_mul-plan c = omega (arith, bytes_bound c.args.plan.rms c.args.plan.acceptors (omega arith) (omega arith))
 
 pub overflow_mul-plan-2 : goal.overflow_mul-plan-2
-overflow_mul-plan-2 c = omega (arith, bytes_bound _ _ c.struct_known-1.given.0.fits c.struct_known-2-1.given.1.0.fits)
+overflow_mul-plan-2 c = omega (arith, bytes_bound c.args.plan.rms c.args.plan.acceptors (omega arith) (omega arith))
 
 -- row 2 of Q
 pub returns-then-votes-plan : goal.returns-then-votes-plan

@@ -4,7 +4,6 @@ use Rattle.change.specs.Change.{judged_outcome}
 use Rattle.change.proofs.Stepping.{step_refused}
 use Rattle.acceptor.specs.Acceptor.{acceptor_step}
 use Rattle.acceptor.proofs.Judging.{step_sound}
-use borrow.Author.Rules.{rules}
 use Rattle.acceptor_call.proofs.step.Goals as goal
 
 pub returns-in-Refused : goal.returns-in-Refused

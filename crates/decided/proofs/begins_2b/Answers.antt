@@ -1,5 +1,4 @@
 -- `decided::begins_2b` meets its contract: its two bytes are one number. Assumes nothing.
-use borrow.Author.Rules.{rules}
 use Rattle.decided.proofs.Voting.{begins_word}
 use Rattle.decided.proofs.begins_2b.Goals as goal
 

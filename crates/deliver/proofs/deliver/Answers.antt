@@ -5,18 +5,10 @@ use borrow.Author.Rules.{rules}
 use Rattle.deliver.proofs.Putting.{deliver_refused, deliver_sound}
 use Rattle.deliver.proofs.deliver.Goals as goal
 
--- where N was found sound; where the message was put
-abbrev sound : tie.After-put → tie.After-enum-told
-sound c = c.before.before
-
-abbrev put : tie.After-slice-known2 → tie.After-put
-put c = c.before.before
-
 -- the two returns
 pub returns-in-Refused : goal.returns-in-Refused
 returns-in-Refused c = deliver_refused _ _ _ _ (sym (ap judged_outcome c.in-Refused.is) ∙ c.judge-judged.ensures)
 
 pub returns-in-Sound : goal.returns-in-Sound
 returns-in-Sound c =
-    let at = sound (put c) in
-    deliver_sound _ _ _ (sym (ap judged_outcome at.enum_told.given.1) ∙ at.before.before.judge.ensures) _ (put c).put.ensures
+    deliver_sound _ _ _ (sym (ap judged_outcome c.in-Sound.is) ∙ c.judge-judged.ensures) _ c.put.ensures

@@ -4,13 +4,6 @@ use Rattle.message.proofs.Guards.{told, halt, pass}
 use Rattle.deliver.specs.Deliver.{deliver_judged}
 use Rattle.deliver.proofs.judge.Goals as goal
 
--- past each test: where the test before it was passed
-abbrev plan : tie.Else2 → tie.Else1
-plan c = c.before.before
-
-abbrev whole : tie.Else3 → tie.Else2
-whole c = c.before.before
-
 pub returns-then-not-is_plan : goal.returns-then-not-is_plan
 unfolding deliver_judged
 returns-then-not-is_plan c = halt _ _ _ (told c.is_plan.ensures c.if-not-is_plan.true)
@@ -24,16 +17,13 @@ returns-then-not-is_table_length c =
 pub returns-then-not-is_table : goal.returns-then-not-is_table
 unfolding deliver_judged
 returns-then-not-is_table c =
-    let first = plan «PLACE Else2» in
-    pass _ _ _ (told first.before.is-plan.ensures first.if1.left)
+    pass _ _ _ (told c.is_plan.ensures c.if-not-is_plan.false)
     (pass _ _ _ (told c.is_table_length.ensures c.if-not-is_table_length.false)
     (halt _ _ _ (told c.is_table.ensures c.if-not-is_table.true)))
 
 pub returns : goal.returns
 unfolding deliver_judged
 returns c =
-    let second = whole c in
-    let first = plan second in
-    pass _ _ _ (told first.before.is-plan.ensures first.if1.left)
-    (pass _ _ _ (told second.before.is-table-length.ensures second.if2.left)
+    pass _ _ _ (told c.is_plan.ensures c.if-not-is_plan.false)
+    (pass _ _ _ (told c.is_table_length.ensures c.if-not-is_table_length.false)
     (pass _ _ _ (told c.is_table.ensures c.if-not-is_table.false) refl))

@@ -1,5 +1,4 @@
 -- `host_code::sent_code` meets its contract: the slot is below the bound or not, as the test found it. Assumes nothing.
-use borrow.Author.Rules.{rules}
 use borrow.Author.Tests.{lt-ltb, le-ltb}
 use Rattle.slots.specs.Table.{max_slots}
 use Rattle.host_code.proofs.sent_code.Goals as goal

@@ -1,9 +1,5 @@
 -- `inbox::any_sought` meets its contract: while no bit is set all slots so far can be passed. Assumes nothing.
-use Prim.Native.Nat.{◌+◌, ◌-◌, ◌≤◌}
-use mathlib.Core.Path.{◌≡◌}
 use native.Mathlib.Omega.{arith}
-use borrow.Author.Rules.{rules}
-use Rattle.inbox.specs.Inbox.Blocks.{block_slots, AllPassed}
 use Rattle.inbox.proofs.Skipping.{all_none, all_fewer, all_met}
 use Rattle.inbox.proofs.any_sought.Goals as goal
 
@@ -15,4 +11,4 @@ loop-i-preserved c =
     (omega (arith, c.loop-i-test.true), all_met _ _ _ _ _ _ _ c.loop-i.invariant.1 c.sought-any.ensures)
 
 pub returns : goal.returns
-returns c = all_fewer _ _ _ _ _ _ (omega (arith, c.loop-i-test.false)) (c.loop-i.invariant.1 none)
+returns c none = all_fewer _ _ _ _ _ _ (omega (arith, c.loop-i-test.false)) (c.loop-i.invariant.1 none)

@@ -1,5 +1,4 @@
 -- `inbox::higher_vote` meets its contract: the arms say which report is there, the branch which ballot is higher. Assumes nothing.
-use borrow.Author.Rules.{rules}
 use borrow.Author.Tests.{lt-ltb, le-ltb}
 use Rattle.inbox.specs.Inbox.{higher}
 use Rattle.inbox.proofs.higher_vote.Goals as goal

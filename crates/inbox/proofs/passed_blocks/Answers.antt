@@ -1,8 +1,6 @@
 -- `inbox::passed_blocks` meets its contract: all slots so far can be passed. Assumes nothing.
-use Prim.Native.Nat.{◌-◌, ◌≤◌}
 use native.Mathlib.Omega.{arith}
 use borrow.Author.Rules.{rules}
-use Rattle.inbox.specs.Inbox.Blocks.{AllPassed}
 use Rattle.inbox.proofs.Skipping.{all_none, all_join}
 use Rattle.inbox.proofs.passed_blocks.Goals as goal
 
@@ -13,12 +11,11 @@ pub returns-then-any_sought-ne0 : goal.returns-then-any_sought-ne0
 returns-then-any_sought-ne0 c = c.loop-place.invariant
 
 pub loop-place-preserved : goal.loop-place-preserved
-loop-place-preserved c =
-    (
-      omega (arith, c.loop-place.invariant.0),
-      search rules,
-      all_join _ _ _ _ _ _ c.loop-place.invariant.2 (c.any_sought.ensures c.if-any_sought-ne0.false),
-    )
+loop-place-preserved c = (
+  omega (arith, c.loop-place.invariant.0),
+  search rules,
+  all_join _ _ _ _ _ _ c.loop-place.invariant.2 (c.any_sought.ensures c.if-any_sought-ne0.false),
+)
 
 pub returns : goal.returns
 returns c = c.loop-place.invariant

@@ -1,9 +1,6 @@
 -- The loop of `inbox::passed_blocks`.
 use Prim.Native.Nat.{◌-◌, ◌≤◌}
-use native.Mathlib.Omega.{arith}
-use borrow.Author.Rules.{rules}
 use Rattle.inbox.specs.Inbox.Blocks.{AllPassed}
-use Rattle.inbox.proofs.Skipping.{all_none, all_join}
 use Rattle.inbox.proofs.passed_blocks.Given as goal
 
 abbrev pub invariant-loop-place : goal.invariant-loop-place

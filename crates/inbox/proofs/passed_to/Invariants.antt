@@ -1,9 +1,6 @@
 -- The loop of `inbox::passed_to`.
 use Prim.Native.Nat.{◌-◌, ◌≤◌}
-use native.Mathlib.Omega.{arith}
-use borrow.Author.Rules.{rules}
 use Rattle.inbox.specs.Inbox.Blocks.{AllPassed}
-use Rattle.inbox.proofs.Skipping.{all_next}
 use Rattle.inbox.proofs.passed_to.Given as goal
 
 abbrev pub invariant-loop-place : goal.invariant-loop-place

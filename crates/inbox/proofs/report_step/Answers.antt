@@ -1,14 +1,6 @@
 -- `inbox::report_step` meets its contract: each branch decides the map or a field. Assumes nothing.
-use borrow.Author.Rules.{rules}
 use Rattle.inbox.proofs.Reporting.{skip_instance, skip_2a, step_2a, skip_1b, step_1b, step_1b_vote, skip_map}
 use Rattle.inbox.proofs.report_step.Goals as goal
-
--- from where the ballot of a 1b passed its test back to where the map was no 2a's, and to where the instance passed
-abbrev at_map : tie.Else4 → tie.Else2
-at_map c = c.before.before
-
-abbrev at_ins : tie.Else4 → tie.Else1
-at_ins c = (at_map c).before.before
 
 pub returns-then-inbox-at : goal.returns-then-inbox-at
 returns-then-inbox-at c = skip_instance _ _ _ _ _ c.if-inbox-at.true
@@ -25,13 +17,13 @@ returns-then-inbox-at-3 c = skip_1b _ _ _ _ _ c.if-map-eq-MAP_2A.false c.if-inbo
 
 pub returns-then-map-eq-MAP_1B : goal.returns-then-map-eq-MAP_1B
 returns-then-map-eq-MAP_1B c =
-    step_1b _ _ _ _ _ (at_ins «PLACE Else4»).if1.false c.if-inbox-at-3.false _ c.insert_bit.ensures c.if-map-eq-MAP_1B.true
+    step_1b _ _ _ _ _ c.if-inbox-at.false c.if-inbox-at-3.false _ c.insert_bit.ensures c.if-map-eq-MAP_1B.true
 
 pub returns-then-map-eq-MAP_1B_VOTE : goal.returns-then-map-eq-MAP_1B_VOTE
 returns-then-map-eq-MAP_1B_VOTE c =
-    step_1b_vote _ _ _ _ _ (at_ins «PLACE Else4»).if1.false c.if-inbox-at-3.false _ c.insert_bit-then-map-eq-MAP_1B_VOTE.ensures
+    step_1b_vote _ _ _ _ _ c.if-inbox-at.false c.if-inbox-at-3.false _ c.insert_bit-then-map-eq-MAP_1B_VOTE.ensures
     c.if-map-eq-MAP_1B_VOTE.true _ c.higher_vote.ensures
 
 pub returns : goal.returns
 returns c =
-    skip_map _ _ _ _ _ (at_map «PLACE Else4»).if2.false c.if-map-eq-MAP_1B.false c.if-map-eq-MAP_1B_VOTE.false
+    skip_map _ _ _ _ _ c.if-map-eq-MAP_2A.false c.if-map-eq-MAP_1B.false c.if-map-eq-MAP_1B_VOTE.false

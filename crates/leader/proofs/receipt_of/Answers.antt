@@ -1,6 +1,5 @@
 -- `leader::receipt_of` meets its contract: each arm says which message it is. Assumes nothing.
 use mathlib.Core.Path.{◌∙◌}
-use borrow.Author.Rules.{rules}
 use borrow.Author.Tests.{eq-eqb, ne_eqb}
 use Rattle.message.specs.Outcome.{refuse_if}
 use Rattle.leader.specs.Leader.{receipt}

@@ -1,7 +1,6 @@
 -- `leader::receipt_store` meets its contract: each arm says which place it is. Assumes nothing.
 use Rattle.leader.specs.Leader.{receipt_store}
 use Rattle.slots.specs.View.{sending}
-use borrow.Author.Rules.{rules}
 use Rattle.leader.proofs.receipt_store.Goals as goal
 
 pub returns-in-At : goal.returns-in-At

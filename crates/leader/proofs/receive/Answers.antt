@@ -2,7 +2,6 @@
 use mathlib.Core.Path.{◌∙◌}
 use Rattle.message.proofs.Guards.{reader_refused, reader_accepted}
 use Rattle.leader.specs.Leader.{receipt}
-use borrow.Author.Rules.{rules}
 use Rattle.leader.proofs.receive.Goals as goal
 
 pub returns-in_default : goal.returns-in_default

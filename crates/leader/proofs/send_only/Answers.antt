@@ -1,7 +1,6 @@
 -- `leader::send_only` meets its contract: each arm says whether there is room. Assumes nothing.
 use Rattle.leader.specs.Leader.{send_only}
 use Rattle.slots.specs.View.{sending}
-use borrow.Author.Rules.{rules}
 use Rattle.leader.proofs.send_only.Goals as goal
 
 pub returns-in-Slot : goal.returns-in-Slot

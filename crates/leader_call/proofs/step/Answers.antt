@@ -3,12 +3,11 @@ use mathlib.Core.Path.{sym, ◌∙◌, ap}
 use Rattle.message.proofs.Guards.{passed, failed}
 use Rattle.change.specs.Change.{judged_outcome}
 use Rattle.leader.proofs.Judging.{call_refused, call_unsound, call_sound}
-use borrow.Author.Rules.{rules}
 use Rattle.leader_call.proofs.step.Goals as goal
 
 pub returns-then-not-is_summary : goal.returns-then-not-is_summary
 returns-then-not-is_summary c =
-    call_unsound _ _ _ _ _ (sym (ap judged_outcome at_told.enum_told.given.1) ∙ at_told.before.before.judge.ensures)
+    call_unsound _ _ _ _ _ (sym (ap judged_outcome c.in-Sound.is) ∙ c.judge-judged.ensures)
     (failed c.is_summary.ensures c.if-not-is_summary.true)
 
 pub returns-in-Refused : goal.returns-in-Refused
@@ -17,5 +16,5 @@ returns-in-Refused c =
 
 pub returns-else-not-is_summary : goal.returns-else-not-is_summary
 returns-else-not-is_summary c =
-    call_sound _ _ _ _ _ (sym (ap judged_outcome at_told.enum_told.given.1) ∙ at_told.before.before.judge.ensures)
+    call_sound _ _ _ _ _ (sym (ap judged_outcome c.in-Sound.is) ∙ c.judge-judged.ensures)
     (passed c.is_summary.ensures c.if-not-is_summary.false) _ c.perform.ensures

@@ -12,21 +12,13 @@ pub returns-then-states-plan : goal.returns-then-states-plan
 unfolding are_lengths inbox_size
 returns-then-states-plan c = rw (ne_eqb _ _ c.if-states-plan.true)
 
-pub overflow_mul-plan : goal.overflow_mul-plan
-unfolding are_lengths inbox_size
-overflow_mul-plan c = omega (arith, bytes_bound _ _ c.struct_known-2-1.given.0.fits c.struct_known-3-1.given.1.0.fits)
-
-pub overflow_mul-plan-2 : goal.overflow_mul-plan-2
-unfolding are_lengths inbox_size
-overflow_mul-plan-2 c = omega (arith, bytes_bound _ _ c.struct_known-2-1.given.0.fits c.struct_known-3-1.given.1.0.fits)
-
 pub returns-then-votes-plan : goal.returns-then-votes-plan
 unfolding are_lengths inbox_size
 returns-then-votes-plan c = rw (eq-eqb _ _ c.if-states-plan.false, ne_eqb _ _ c.if-votes-plan.true)
 
 pub returns-then-not-is_table_length : goal.returns-then-not-is_table_length
 unfolding are_lengths inbox_size
-returns-then-not-is_table_length c = rw ( eq-eqb _ _ c.if-states-plan.false, eq-eqb _ _ c.if-votes-plan.false, failed c.is_table_length.ensures c.if-not-is_table_length.true, )
+returns-then-not-is_table_length c = rw (eq-eqb _ _ c.if-states-plan.false, eq-eqb _ _ c.if-votes-plan.false, failed c.is_table_length.ensures c.if-not-is_table_length.true)
 
 pub nonzero_rem-inboxes : goal.nonzero_rem-inboxes
 unfolding are_lengths inbox_size
@@ -34,7 +26,7 @@ nonzero_rem-inboxes c = (plan_bounds _ c.requires).leaders_least
 
 pub returns-then-inboxes-leaders-ne0 : goal.returns-then-inboxes-leaders-ne0
 unfolding are_lengths inbox_size
-returns-then-inboxes-leaders-ne0 c = rw ( eq-eqb _ _ c.if-states-plan.false, eq-eqb _ _ c.if-votes-plan.false, passed c.is_table_length.ensures c.if-not-is_table_length.false, ne_eqb _ _ c.if-inboxes-leaders-ne0.true, )
+returns-then-inboxes-leaders-ne0 c = rw (eq-eqb _ _ c.if-states-plan.false, eq-eqb _ _ c.if-votes-plan.false, passed c.is_table_length.ensures c.if-not-is_table_length.false, ne_eqb _ _ c.if-inboxes-leaders-ne0.true)
 
 pub nonzero_div-inboxes : goal.nonzero_div-inboxes
 unfolding are_lengths inbox_size
@@ -42,4 +34,4 @@ nonzero_div-inboxes c = (plan_bounds _ c.requires).leaders_least
 
 pub returns : goal.returns
 unfolding are_lengths inbox_size
-returns c = rw ( eq-eqb _ _ c.if-states-plan.false, eq-eqb _ _ c.if-votes-plan.false, passed c.is_table_length.ensures c.if-not-is_table_length.false, eq-eqb _ _ c.if-inboxes-leaders-ne0.false, ) c.is_table_length-2.ensures
+returns c = rw (eq-eqb _ _ c.if-states-plan.false, eq-eqb _ _ c.if-votes-plan.false, passed c.is_table_length.ensures c.if-not-is_table_length.false, eq-eqb _ _ c.if-inboxes-leaders-ne0.false) c.is_table_length-2.ensures

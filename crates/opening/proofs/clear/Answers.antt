@@ -14,7 +14,7 @@ pub loop-i-smaller : goal.loop-i-smaller
 loop-i-smaller c = simp length-set (omega arith)
 
 pub loop-i-preserved : goal.loop-i-preserved
-loop-i-preserved c = ( simp length-set (omega arith), simp length-set c.loop-i.invariant.1, clear_step c.loop-i.bytes c.loop-i.i c.loop-i-test.true c.loop-i.invariant.2, )
+loop-i-preserved c = (simp length-set (omega arith), simp length-set c.loop-i.invariant.1, clear_step c.loop-i.bytes c.loop-i.i c.loop-i-test.true c.loop-i.invariant.2)
 
 pub shape_of-bytes : goal.shape_of-bytes
 shape_of-bytes c = c.loop-i.invariant.1

@@ -8,7 +8,7 @@ use Rattle.opening.proofs.Clearing.{clear_step, clear_end}
 use Rattle.opening.proofs.clear.Given as goal
 
 abbrev pub invariant-loop-i : goal.invariant-loop-i
-invariant-loop-i l = (l.i ≤ length l.initial.i) × (length l.initial.i ≡ length l.initial.bytes) × (take l.i l.initial.i ≡ replicate l.i 0)
+invariant-loop-i l = (l.i ≤ length l.bytes) × (length l.bytes ≡ length l.initial.bytes) × (take l.i l.bytes ≡ replicate l.i 0)
 
 abbrev pub decreases-loop-i : goal.decreases-loop-i
-decreases-loop-i l = length l.initial.i - l.i
+decreases-loop-i l = length l.bytes - l.i

@@ -8,9 +8,6 @@ use Rattle.opening.proofs.open.Goals as goal
 pub returns-in_default : goal.returns-in_default
 returns-in_default c = open_refused _ _ _ c.judge_lengths-judged.ensures _ c.in_default.is
 
-pub overflow_mul-plan : goal.overflow_mul-plan
-overflow_mul-plan c = omega (arith, bytes_bound _ _ c.struct_known-1.given.0.fits c.struct_known-2-1.given.1.1.0.fits)
-
 pub returns-then-summary-plan : goal.returns-then-summary-plan
 returns-then-summary-plan c =
     open_short _ _ _ c.judge_lengths-judged.ensures c.in-Sound.is c.if-summary-plan.true

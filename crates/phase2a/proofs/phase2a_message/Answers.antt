@@ -1,5 +1,9 @@
 -- `phase2a::phase2a_message` meets its contract: each `return` is one case of `phase2a_message`. Assumes nothing.
-use mathlib.Core.Bool.{false, not}
+use Prim.Native.Nat.{ℕ}
+use mathlib.Core.Bool.{Bool, true}
+use Rattle.std.specs.Prelude.{◌&&◌, leb}
+use Rattle.message.specs.declared.Plan.{Plan}
+use Rattle.message.specs.Plan.{is_plan}
 use mathlib.Core.Path.{◌≡◌, sym, ◌∙◌}
 use borrow.Author.Tests.{le-leb}
 use Rattle.message.specs.Plan.Laws.{plan_bounds}
@@ -9,35 +13,28 @@ use Rattle.phase2a.specs.Phase2a.Own.{refuses, proposes}
 use Rattle.phase2a.proofs.Proposing.{proposed_is, quorum_is, proposal_is, count_is}
 use Rattle.phase2a.proofs.phase2a_message.Goals as goal
 
-abbrev start : tie.After-owns-ballot → tie.Start
-start c = c.before.before
-
 -- what the callee says of ownership; a plan in range has leaders
-owned : (c : tie.After-owns-ballot) → c.owns-ballot.result ≡ owns (start c).args.plan (start c).args.who (start c).args.ballot
-owned c = c.owns-ballot.ensures ∙ rw (le-leb 1 _ (plan_bounds _ (start c).requires).leaders_least)
-
--- past the first test row 10 does not apply
-passes : (c : tie.Else1) → not (owns (start c.before).args.plan (start c.before).args.who (start c.before).args.ballot) ≡ false
-passes c = told (owned c.before) c.if1.false
+owned : (p : Plan) (who ballot : ℕ) → is_plan p ≡ true → (r : Bool) → r ≡ (leb 1 p.leaders && owns p who ballot) → r ≡ owns p who ballot
+owned p who ballot plan r e = e ∙ rw (le-leb 1 _ (plan_bounds _ plan).leaders_least)
 
 pub returns-then-not-owns_ballot : goal.returns-then-not-owns_ballot
 unfolding phase2a_message
-returns-then-not-owns_ballot c = refuses _ _ _ _ _ _ _ (halt _ _ _ (told (owned «PLACE After-owns_ballot») c.if-not-owns_ballot.true))
+returns-then-not-owns_ballot c = refuses _ _ _ _ _ _ _ (halt _ _ _ (told (owned _ _ _ c.requires _ c.owns_ballot.ensures) c.if-not-owns_ballot.true))
 
 pub returns-then-proposed : goal.returns-then-proposed
 unfolding phase2a_message
 returns-then-proposed c =
     refuses _ _ _ _ _ _ _
-    (pass _ _ _ (passes «PLACE Else1»)
+    (pass _ _ _ (told (owned _ _ _ c.requires _ c.owns_ballot.ensures) c.if-not-owns_ballot.false)
     (halt _ _ _ (sym (proposed_is _ _ _ _ _ c.gather_reports-reports.ensures) ∙ c.if-proposed.true)))
 
 pub returns-then-not-quorum : goal.returns-then-not-quorum
 unfolding phase2a_message
 returns-then-not-quorum c =
     refuses _ _ _ _ _ _ _
-    (pass _ _ _ (passes «PLACE Else1»)
+    (pass _ _ _ (told (owned _ _ _ c.requires _ c.owns_ballot.ensures) c.if-not-owns_ballot.false)
     (pass _ _ _ (sym (proposed_is _ _ _ _ _ c.gather_reports-reports.ensures) ∙ c.if-proposed.false)
-    (halt _ _ _ (told (quorum_is _ _ _ _ _ c.gather_reports-reports.ensures (start «PLACE After-owns_ballot»).requires) c.if-not-quorum.true))))
+    (halt _ _ _ (told (quorum_is _ _ _ _ _ c.gather_reports-reports.ensures c.requires) c.if-not-quorum.true))))
 
 pub returns : goal.returns
 unfolding phase2a_message
@@ -45,8 +42,8 @@ returns c =
     let gathered = c.gather_reports-reports.ensures in
     let none = sym (proposed_is _ _ _ _ _ gathered) ∙ c.if-proposed.false in
     proposes _ _ _ _ _ _ _
-    (pass _ _ _ (passes «PLACE Else1»)
+    (pass _ _ _ (told (owned _ _ _ c.requires _ c.owns_ballot.ensures) c.if-not-owns_ballot.false)
     (pass _ _ _ none
-    (pass _ _ _ (told (quorum_is _ _ _ _ _ gathered (start «PLACE After-owns_ballot»).requires) c.if-not-quorum.false)
+    (pass _ _ _ (told (quorum_is _ _ _ _ _ gathered c.requires) c.if-not-quorum.false)
     (proposal_is _ _ _ _ _ gathered _ c.proposal_of.ensures))))
     none (count_is _ _ _ _ _ gathered)

@@ -1,6 +1,5 @@
 -- `phase2a::proposal_of` meets its contract: each arm says which report it is. Assumes nothing.
 use Rattle.inbox.specs.Inbox.{proposal}
-use borrow.Author.Rules.{rules}
 use Rattle.phase2a.proofs.proposal_of.Goals as goal
 
 pub returns-in-None : goal.returns-in-None

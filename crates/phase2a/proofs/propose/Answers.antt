@@ -3,7 +3,6 @@ use mathlib.Core.Path.{◌∙◌, ap}
 use Rattle.message.proofs.Guards.{passed, told, halt, pass, reader_refused, reader_accepted}
 use Rattle.message.specs.Codec.{read_outcome}
 use Rattle.phase2a.specs.Phase2a.{send_both, phase2a}
-use borrow.Author.Rules.{rules}
 use Rattle.phase2a.proofs.propose.Goals as goal
 
 pub returns-then-not-is_plan : goal.returns-then-not-is_plan

@@ -1,7 +1,6 @@
 -- `phase2a::send_both` meets its contract: each arm says whether there is room in N. Assumes nothing.
 use Rattle.phase2a.specs.Phase2a.{send_both}
 use Rattle.slots.specs.View.{sending}
-use borrow.Author.Rules.{rules}
 use Rattle.phase2a.proofs.send_both.Goals as goal
 
 pub returns-in-Slot : goal.returns-in-Slot

@@ -23,12 +23,11 @@ pub returns-then-not-is_count-3 : goal.returns-then-not-is_count-3
 returns-then-not-is_count-3 c = sym (ap number_of (read_message_plan _ _ (plan_leaders _ (failed c.is_count-3.ensures c.if-not-is_count-3.true))))
 
 pub map_refusal-requires : goal.map_refusal-requires
-map_refusal-requires c =
-    (
-      plan_counts _ (passed c.is_count.ensures c.if-not-is_count.false) (passed c.is_count-2.ensures
-          c.if-not-is_count-2.false) (passed c.is_count-3.ensures c.if-not-is_count-3.false),
-      refl,
-    )
+map_refusal-requires c = (
+  plan_counts _ (passed c.is_count.ensures c.if-not-is_count.false) (passed c.is_count-2.ensures
+      c.if-not-is_count-2.false) (passed c.is_count-3.ensures c.if-not-is_count-3.false),
+  refl,
+)
 
 pub returns : goal.returns
 returns c = c.map_refusal.ensures

@@ -7,53 +7,38 @@ use Rattle.message.proofs.Guards.{guards, passed, failed, within}
 use Rattle.refusal.proofs.Slices.{whole, not_whole}
 use Rattle.refusal.proofs.refusal_2b.Goals as goal
 
--- where the function began, from where the length has passed its test; and that place, from where the instance and the acceptor have
-abbrev at_start : tie.Else1 → tie.Start
-at_start c = c.before.before.before
-
-abbrev at_ins : tie.Else2 → tie.Else1
-at_ins c = c.before.before.before
-
-abbrev at_acc : tie.Else3 → tie.Else1
-at_acc c = at_ins c.before.before.before
-
 pub returns-then-bytes-map_length : goal.returns-then-bytes-map_length
 returns-then-bytes-map_length c =
     shape_length _ _ _ c.requires.1 (not_whole c.if-bytes-map_length.true c.map_length.ensures c.requires.0)
 
 pub bounds-bytes-1 : goal.bounds-bytes-1
 bounds-bytes-1 c =
-    within (whole c.if-bytes-map_length.false c.map_length.ensures (at_start «PLACE Else1»).requires.0 ∙ length_2b) (lit< tt)
+    within (whole c.if-bytes-map_length.false c.map_length.ensures c.requires.0 ∙ length_2b) (lit< tt)
 
 pub returns-then-plan-bytes : goal.returns-then-plan-bytes
 returns-then-plan-bytes c =
-    shape_range _ _ _ (at_start «PLACE Else1»).requires.1 (whole c.if-bytes-map_length.false c.map_length.ensures (at_start «PLACE Else1»).requires.0)
-    (rw (decoded_2b _ _ (at_start «PLACE Else1»).requires.1.first) (search guards))
+    shape_range _ _ _ c.requires.1 (whole c.if-bytes-map_length.false c.map_length.ensures c.requires.0)
+    (rw (decoded_2b _ _ c.requires.1.first) (search guards))
 
 pub bounds-bytes-2 : goal.bounds-bytes-2
 bounds-bytes-2 c =
-    let at_length = at_ins «PLACE Else2» in
-    within (whole at_length.if1.left at_length.before.map-length.ensures (at_start at_length).pre.0 ∙ length_2b) (lit< tt)
+    within (whole c.if-bytes-map_length.false c.map_length.ensures c.requires.0 ∙ length_2b) (lit< tt)
 
 pub returns-then-plan-bytes-2 : goal.returns-then-plan-bytes-2
 returns-then-plan-bytes-2 c =
-    let at_length = at_ins «PLACE Else2» in
-    shape_range _ _ _ (at_start at_length).pre.1 (whole at_length.if1.left at_length.before.map-length.ensures (at_start at_length).pre.0)
-    (rw (decoded_2b _ _ (at_start at_length).pre.1.first) (search guards))
+    shape_range _ _ _ c.requires.1 (whole c.if-bytes-map_length.false c.map_length.ensures c.requires.0)
+    (rw (decoded_2b _ _ c.requires.1.first) (search guards))
 
 pub bounds-bytes-4 : goal.bounds-bytes-4
 bounds-bytes-4 c =
-    let at_length = at_acc «PLACE Else3» in
-    within (whole at_length.if1.left at_length.before.map-length.ensures (at_start at_length).pre.0 ∙ length_2b) (lit< tt)
+    within (whole c.if-bytes-map_length.false c.map_length.ensures c.requires.0 ∙ length_2b) (lit< tt)
 
 pub returns-then-not-is_value : goal.returns-then-not-is_value
 returns-then-not-is_value c =
-    let at_length = at_acc «PLACE Else3» in
-    shape_range _ _ _ (at_start at_length).pre.1 (whole at_length.if1.left at_length.before.map-length.ensures (at_start at_length).pre.0)
-    (rw (decoded_2b _ _ (at_start at_length).pre.1.first) (sym (failed c.is_value.ensures c.if-not-is_value.true) ∙ search guards))
+    shape_range _ _ _ c.requires.1 (whole c.if-bytes-map_length.false c.map_length.ensures c.requires.0)
+    (rw (decoded_2b _ _ c.requires.1.first) (sym (failed c.is_value.ensures c.if-not-is_value.true) ∙ search guards))
 
 pub returns : goal.returns
 returns c =
-    let at_length = at_acc «PLACE Else3» in
-    shape_none _ _ _ (at_start at_length).pre.1 (whole at_length.if1.left at_length.before.map-length.ensures (at_start at_length).pre.0)
-    (rw (decoded_2b _ _ (at_start at_length).pre.1.first) (sym (passed c.is_value.ensures c.if-not-is_value.false) ∙ search guards))
+    shape_none _ _ _ c.requires.1 (whole c.if-bytes-map_length.false c.map_length.ensures c.requires.0)
+    (rw (decoded_2b _ _ c.requires.1.first) (sym (passed c.is_value.ensures c.if-not-is_value.false) ∙ search guards))

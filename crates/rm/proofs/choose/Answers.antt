@@ -3,7 +3,6 @@ use Rattle.message.proofs.Guards.{guards}
 use Rattle.message.specs.Outcome.{refuse_if}
 use Rattle.rm.specs.Rm.{rm_choose}
 use Rattle.slots.specs.View.{sending}
-use borrow.Author.Rules.{rules}
 use Rattle.rm.proofs.choose.Goals as goal
 
 pub returns-then-state-ne-WORKING : goal.returns-then-state-ne-WORKING

@@ -1,6 +1,5 @@
 -- `rm::evaluate_kind` meets its contract: the branch decides the kind, and the reader's answer is the slot's. Assumes nothing.
 use mathlib.Core.Path.{◌∙◌}
-use borrow.Author.Rules.{rules}
 use Rattle.message.proofs.Guards.{reader_refused, reader_accepted}
 use Rattle.rm.specs.Rm.{rm_receive}
 use Rattle.rm.proofs.Choosing.{kind_chooses, kind_receives}

@@ -1,6 +1,5 @@
 -- `rm::receive` meets its contract: each arm says which message it is. Assumes nothing.
 use Rattle.rm.specs.Rm.{rm_receive}
-use borrow.Author.Rules.{rules}
 use Rattle.rm.proofs.receive.Goals as goal
 
 pub returns-in-Phase1a : goal.returns-in-Phase1a

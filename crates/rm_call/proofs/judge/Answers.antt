@@ -4,7 +4,6 @@ use mathlib.Core.Path.{refl, ap}
 use borrow.Author.Tests.{eq-eqb, ne_eqb}
 use Rattle.message.proofs.Guards.{told, halt, pass}
 use Rattle.rm.specs.Rm.{rm_judged}
-use borrow.Author.Rules.{rules}
 use Rattle.rm_call.proofs.judge.Goals as goal
 
 pub returns-then-not-is_plan : goal.returns-then-not-is_plan

@@ -4,7 +4,6 @@ use Rattle.change.specs.Change.{judged_outcome}
 use Rattle.change.proofs.Stepping.{step_refused}
 use Rattle.rm.specs.Rm.{rm_step}
 use Rattle.rm.proofs.Judging.{step_sound}
-use borrow.Author.Rules.{rules}
 use Rattle.rm_call.proofs.step.Goals as goal
 
 pub returns-in-Refused : goal.returns-in-Refused

@@ -1,5 +1,4 @@
 -- `search::eight_from` meets its contract: the two halves are the two words. Assumes nothing.
-use borrow.Author.Rules.{rules}
 use Rattle.search.proofs.eight_from.Goals as goal
 
 pub returns : goal.returns

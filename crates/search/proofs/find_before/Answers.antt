@@ -1,8 +1,7 @@
 -- `search::find_before` meets its contract: no slot before `place` is the form. Assumes nothing.
-use Prim.Native.Nat.{◌-◌, zero-le}
+use Prim.Native.Nat.{zero-le}
 use native.Mathlib.Omega.{arith}
 use lib.Dec.{lit≤}
-use Rattle.search.specs.Blocks.{Passed}
 use Rattle.search.proofs.Blocks.{row_further, found_end, found_row, passed_row}
 use Rattle.search.proofs.find_before.Goals as goal
 

@@ -1,9 +1,6 @@
 -- The loop of `search::find_before`.
-use Prim.Native.Nat.{◌-◌, zero-le}
-use native.Mathlib.Omega.{arith}
-use lib.Dec.{lit≤}
+use Prim.Native.Nat.{◌-◌}
 use Rattle.search.specs.Blocks.{Passed}
-use Rattle.search.proofs.Blocks.{row_further, found_end, found_row, passed_row}
 use Rattle.search.proofs.find_before.Given as goal
 
 abbrev pub invariant-loop-place : goal.invariant-loop-place

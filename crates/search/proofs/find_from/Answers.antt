@@ -1,7 +1,4 @@
 -- `search::find_from` meets its contract: no slot before `place` is the form. Assumes nothing.
-use Prim.Native.Nat.{◌-◌}
-use borrow.Author.Rules.{rules}
-use Rattle.search.specs.Blocks.{Passed}
 use Rattle.search.proofs.Blocks.{passed_start, passed_one, found_end, found_here}
 use Rattle.search.proofs.Look.{is_form_lem, not_form}
 use Rattle.search.proofs.find_from.Goals as goal

@@ -1,5 +1,4 @@
 -- `search::form_of` meets its contract: the bytes are the message's slot. Assumes nothing.
-use borrow.Author.Rules.{rules}
 use Rattle.search.proofs.form_of.Goals as goal
 
 pub returns : goal.returns

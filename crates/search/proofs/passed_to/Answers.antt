@@ -1,8 +1,5 @@
 -- `search::passed_to` meets its contract: no slot before `place` is the form. Assumes nothing.
-use Prim.Native.Nat.{◌-◌}
 use native.Mathlib.Omega.{arith}
-use borrow.Author.Rules.{rules}
-use Rattle.search.specs.Blocks.{Passed}
 use Rattle.search.proofs.Blocks.{begins_form, passed_start, passed_more}
 use Rattle.search.proofs.passed_to.Goals as goal
 

@@ -1,9 +1,6 @@
 -- The loop of `search::passed_to`.
 use Prim.Native.Nat.{◌-◌}
-use native.Mathlib.Omega.{arith}
-use borrow.Author.Rules.{rules}
 use Rattle.search.specs.Blocks.{Passed}
-use Rattle.search.proofs.Blocks.{begins_form, passed_start, passed_more}
 use Rattle.search.proofs.passed_to.Given as goal
 
 abbrev pub invariant-loop-place : goal.invariant-loop-place

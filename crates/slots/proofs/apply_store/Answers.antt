@@ -1,5 +1,4 @@
 -- `slots::apply_store` meets its contract: each arm says which store it is. Assumes nothing.
-use borrow.Author.Rules.{rules}
 use Rattle.slots.proofs.apply_store.Goals as goal
 
 pub returns-in-Put : goal.returns-in-Put

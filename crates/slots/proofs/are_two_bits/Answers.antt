@@ -1,11 +1,6 @@
 -- `slots::are_two_bits` meets its contract: the bits so far and the bytes from `i` on are at most 3 exactly when all bytes are. Assumes nothing.
-use Prim.Native.Nat.{◌≤◌, ◌-◌}
-use mathlib.Core.Bool.{◌&&◌}
-use mathlib.Core.Path.{◌≡◌, refl}
-use lib.Dec.{leb}
-use lib.ListN.{length, drop}
+use mathlib.Core.Path.{refl}
 use borrow.Author.Rules.{rules}
-use Rattle.slots.specs.All.{all}
 use Rattle.slots.proofs.TwoBits.{two_bits_next, two_bits_end}
 use Rattle.slots.proofs.are_two_bits.Goals as goal
 

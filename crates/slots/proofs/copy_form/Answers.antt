@@ -1,10 +1,8 @@
 -- `slots::copy_form` meets its contract: the first `i` bytes are the form's. Assumes nothing.
-use Prim.Native.Nat.{◌≤◌, ◌-◌}
-use mathlib.Core.Path.{◌≡◌, refl}
+use mathlib.Core.Path.{refl}
 use native.Mathlib.Omega.{arith}
-use lib.ListN.{length, take, length-set}
+use lib.ListN.{length-set}
 use borrow.Author.Rules.{rules}
-use Rattle.slots.specs.Table.{slot_size}
 use Rattle.slots.proofs.Copy.{copy_step, copy_end}
 use Rattle.slots.proofs.copy_form.Goals as goal
 
@@ -18,12 +16,11 @@ pub bounds-slot-i : goal.bounds-slot-i
 bounds-slot-i c = omega arith
 
 pub loop-i-preserved : goal.loop-i-preserved
-loop-i-preserved c =
-    (
-      search rules,
-      simp length-set c.loop-i.invariant.1,
-      copy_step c.loop-i.slot c.args.form.now c.loop-i.i (omega arith) (omega arith) c.loop-i.invariant.2,
-    )
+loop-i-preserved c = (
+  search rules,
+  simp length-set c.loop-i.invariant.1,
+  copy_step c.loop-i.slot c.args.form.now c.loop-i.i (omega arith) (omega arith) c.loop-i.invariant.2,
+)
 
 pub shape_of-slot : goal.shape_of-slot
 shape_of-slot c = omega arith

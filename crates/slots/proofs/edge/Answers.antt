@@ -1,5 +1,5 @@
 -- `slots::edge` meets its contract: from the place near it on slot by slot. Assumes nothing.
-use Prim.Native.Nat.{◌/◌, ◌≤◌}
+use Prim.Native.Nat.{◌/◌}
 use mathlib.Core.Path.{◌∙◌, ap}
 use lib.Dec.{lit≤}
 use lib.ListN.{length}

@@ -1,6 +1,5 @@
 -- `slots::message_at` meets its contract: the part that is read is the slot at the place. Assumes nothing.
 use mathlib.Core.Path.{◌∙◌}
-use borrow.Author.Rules.{rules}
 use Rattle.slots.specs.Table.Laws.{peek_at_in, peek_at_out}
 use Rattle.slots.proofs.message_at.Goals as goal
 

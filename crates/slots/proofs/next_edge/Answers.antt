@@ -1,10 +1,6 @@
 -- `slots::next_edge` meets its contract: steps from a place on lead where steps from the start do. Assumes nothing.
-use Prim.Native.Nat.{◌-◌, ◌/◌, ◌≤◌}
-use mathlib.Core.Path.{◌≡◌, refl, sym, ◌∙◌}
+use mathlib.Core.Path.{refl, sym, ◌∙◌}
 use native.Mathlib.Omega.{arith}
-use lib.ListN.{length}
-use Rattle.slots.specs.Table.{slot_size}
-use Rattle.slots.specs.Table.Scan.{steps_from}
 use Rattle.slots.specs.Table.Edge.{step_yes, step_no, step_out, steps_next, steps_stop}
 use Rattle.slots.proofs.next_edge.Goals as goal
 

@@ -1,11 +1,9 @@
 -- The loop of `slots::next_edge`.
 use Prim.Native.Nat.{◌-◌, ◌/◌, ◌≤◌}
-use mathlib.Core.Path.{◌≡◌, refl, sym, ◌∙◌}
-use native.Mathlib.Omega.{arith}
+use mathlib.Core.Path.{◌≡◌}
 use lib.ListN.{length}
 use Rattle.slots.specs.Table.{slot_size}
 use Rattle.slots.specs.Table.Scan.{steps_from}
-use Rattle.slots.specs.Table.Edge.{step_yes, step_no, step_out, steps_next, steps_stop}
 use Rattle.slots.proofs.next_edge.Given as goal
 
 abbrev pub invariant-loop-place : goal.invariant-loop-place

@@ -1,11 +1,8 @@
 -- `summary::all_prepared` meets its contract: bit 0 of `all` stands exactly where prepared does for each instance below `i`. Assumes nothing.
-use Prim.Native.Nat.{◌-◌, ◌%◌, ◌≤◌}
-use mathlib.Core.Path.{◌≡◌, refl}
-use lib.Dec.{eqb}
-use lib.ListN.{length}
+use mathlib.Core.Path.{refl}
 use borrow.Author.Rules.{rules}
 use Rattle.inbox.specs.Inbox.{for_all}
-use Rattle.summary.proofs.Reading.{all_prepared, all_next, all_short, all_end}
+use Rattle.summary.proofs.Reading.{all_next, all_short, all_end}
 use Rattle.summary.proofs.all_prepared.Goals as goal
 
 pub returns-then-summary-n : goal.returns-then-summary-n

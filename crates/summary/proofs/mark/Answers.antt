@@ -1,6 +1,5 @@
 -- `summary::mark` meets its contract: what the slot holds. Assumes nothing.
 use Rattle.summary.proofs.Marking.{mark_unused, mark_held}
-use borrow.Author.Rules.{rules}
 use Rattle.summary.proofs.mark.Goals as goal
 
 pub returns-in_default : goal.returns-in_default

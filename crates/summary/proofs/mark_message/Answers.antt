@@ -1,6 +1,5 @@
 -- `summary::mark_message` meets its contract: each arm is one case of `marked`. Assumes nothing.
 use Rattle.summary.specs.Summary.{marked}
-use borrow.Author.Rules.{rules}
 use Rattle.summary.proofs.mark_message.Goals as goal
 
 pub returns-in-Phase1a : goal.returns-in-Phase1a

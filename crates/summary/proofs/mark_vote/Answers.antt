@@ -1,7 +1,6 @@
 -- `summary::mark_vote` meets its contract: each way out is one case of a 2b's mark. Assumes nothing.
 use Rattle.message.proofs.Guards.{passed, failed}
 use Rattle.summary.proofs.Marking.{mark_stands, mark_none, mark_set}
-use borrow.Author.Rules.{rules}
 use Rattle.summary.proofs.mark_vote.Goals as goal
 
 pub returns-then-with-byte : goal.returns-then-with-byte

@@ -1,6 +1,5 @@
 -- `summary::part_size` meets its contract: without a division it answers what one would. Assumes nothing.
 use native.Mathlib.Omega.{arith}
-use borrow.Author.Rules.{rules}
 use Rattle.message.specs.Plan.Laws.{bytes_bound}
 use Rattle.summary.proofs.Parts.{no_leaders, whole_size}
 use Rattle.summary.proofs.part_size.Goals as goal
@@ -9,7 +8,7 @@ pub returns-then-leaders-eq0 : goal.returns-then-leaders-eq0
 returns-then-leaders-eq0 c = no_leaders _ _ c.if-leaders-eq0.true
 
 pub overflow_mul-n : goal.overflow_mul-n
-overflow_mul-n c = omega (arith, bytes_bound _ _ c.struct_known-1.given.0.fits c.struct_known-2-1.given.1.1.0.fits)
+overflow_mul-n c = omega (arith, bytes_bound c.args.plan.rms c.args.plan.leaders (omega arith) (omega arith))
 
 pub returns-then-size-n : goal.returns-then-size-n
 returns-then-size-n c = whole_size _ _ _ c.if-leaders-eq0.false c.if-size-n.true

@@ -1,12 +1,9 @@
 -- `summary::some_aborted` meets its contract: bit 1 of `any` stands exactly where aborted does for some instance below `i`. Assumes nothing.
-use Prim.Native.Nat.{◌-◌, ◌/◌, ◌%◌, ◌≤◌}
-use mathlib.Core.Path.{◌≡◌, refl}
+use mathlib.Core.Path.{refl}
 use native.Mathlib.Omega.{arith}
-use lib.Dec.{eqb}
-use lib.ListN.{length}
 use borrow.Author.Rules.{rules}
 use Rattle.inbox.specs.Inbox.{for_some}
-use Rattle.summary.proofs.Reading.{some_aborted, some_next, some_end}
+use Rattle.summary.proofs.Reading.{some_next, some_end}
 use Rattle.summary.proofs.some_aborted.Goals as goal
 
 pub loop-i-init : goal.loop-i-init

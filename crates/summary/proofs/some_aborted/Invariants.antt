@@ -1,16 +1,13 @@
 -- The loop of `summary::some_aborted`.
 use Prim.Native.Nat.{◌-◌, ◌/◌, ◌%◌, ◌≤◌}
-use mathlib.Core.Path.{◌≡◌, refl}
-use native.Mathlib.Omega.{arith}
+use mathlib.Core.Path.{◌≡◌}
 use lib.Dec.{eqb}
 use lib.ListN.{length}
-use borrow.Author.Rules.{rules}
-use Rattle.inbox.specs.Inbox.{for_some}
-use Rattle.summary.proofs.Reading.{some_aborted, some_next, some_end}
+use Rattle.summary.proofs.Reading.{some_aborted}
 use Rattle.summary.proofs.some_aborted.Given as goal
 
 abbrev pub invariant-loop-i : goal.invariant-loop-i
-invariant-loop-i l = (l.n ≤ length l.summary) × (l.i ≤ l.n) × (eqb (l.initial.i / 2 % 2) 1 ≡ some_aborted l.summary l.i)
+invariant-loop-i l = (l.n ≤ length l.summary) × (l.i ≤ l.n) × (eqb (l.any / 2 % 2) 1 ≡ some_aborted l.summary l.i)
 
 abbrev pub decreases-loop-i : goal.decreases-loop-i
 decreases-loop-i l = l.n - l.i

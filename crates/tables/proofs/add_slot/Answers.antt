@@ -5,11 +5,8 @@ use Rattle.tables.specs.Tables.Bounds.{are_within, is_form}
 use Rattle.tables.proofs.Seen.{slot_seen}
 use Rattle.tables.proofs.add_slot.Goals as goal
 
-pub overflow_cast-row : goal.overflow_cast-row
-overflow_cast-row c = omega (arith, c.shared_slice_known-2-1.given c.args.at)
-
 pub returns : goal.returns
 unfolding is_form are_within
 returns c =
-    slot_seen at_1.before.before.before.before.before.args.seen _ _ _ _ _ _ _ _ _ c.lane.ensures c.lane-2.ensures c.lane-3.ensures
+    slot_seen c.args.seen _ _ _ _ _ _ _ _ _ c.lane.ensures c.lane-2.ensures c.lane-3.ensures
     c.lane-4.ensures c.lane-5.ensures c.lane-6.ensures c.lane-7.ensures c.lane-8.ensures

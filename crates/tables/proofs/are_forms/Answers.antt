@@ -28,11 +28,10 @@ pub loop-place-smaller : goal.loop-place-smaller
 loop-place-smaller c = omega arith
 
 pub loop-place-preserved : goal.loop-place-preserved
-loop-place-preserved c =
-    (
-      omega arith,
-      λ p b. form_step b _ _ _ _ (omega (arith, c.requires.1, c.loop-place-test.true)) (c.loop-place.invariant.1 p b) c.add_slot-seen.ensures,
-    )
+loop-place-preserved c = (
+  omega arith,
+  λ p b. form_step b _ _ _ _ (omega (arith, c.requires.1, c.loop-place-test.true)) (c.loop-place.invariant.1 p b) c.add_slot-seen.ensures,
+)
 
 pub returns : goal.returns
 unfolding are_used

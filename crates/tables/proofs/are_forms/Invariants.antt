@@ -13,7 +13,7 @@ use Rattle.tables.proofs.are_forms.Given as goal
 
 abbrev pub invariant-loop-place : goal.invariant-loop-place
 invariant-loop-place l =
-    (l.place ≤ l.used) × ((p : Plan) → Bounded p l.bounds → is_clear l.initial.place ≡ each (used_at p l.table) 0 l.place)
+    (l.place ≤ l.used) × ((p : Plan) → Bounded p l.bounds → is_clear l.seen ≡ each (used_at p l.table) 0 l.place)
 
 abbrev pub decreases-loop-place : goal.decreases-loop-place
 decreases-loop-place l = l.used - l.place

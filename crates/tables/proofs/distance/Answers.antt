@@ -5,7 +5,7 @@ use Rattle.tables.proofs.Within.{within_above, within_under}
 use Rattle.tables.proofs.distance.Goals as goal
 
 pub returns-then-low-byte : goal.returns-then-low-byte
-returns-then-low-byte c = within_above _ _ span c.if-low-byte.true (omega arith)
+returns-then-low-byte c span = within_above _ _ span c.if-low-byte.true (omega arith)
 
 pub returns-else-low-byte : goal.returns-else-low-byte
-returns-else-low-byte c = within_under _ _ span c.if-low-byte.false (omega arith)
+returns-else-low-byte c span = within_under _ _ span c.if-low-byte.false (omega arith)

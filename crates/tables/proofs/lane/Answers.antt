@@ -6,4 +6,4 @@ use Rattle.tables.proofs.lane.Goals as goal
 pub returns : goal.returns
 unfolding is_within_at
 returns c =
-    rw (c.either.ensures, c.over.ensures, at-distance.distance.ensures)
+    rw (c.either.ensures, c.over.ensures, c.distance-gap.ensures)

@@ -15,7 +15,7 @@ pub returns-then-not-is_vote_state : goal.returns-then-not-is_vote_state
 returns-then-not-is_vote_state c = sym (are_votes_stop c.args.votes.now c.loop-i.i c.loop-i-test.true (failed c.is_vote_state.ensures c.if-not-is_vote_state.true)) ∙ c.loop-i.invariant.1
 
 pub loop-i-preserved : goal.loop-i-preserved
-loop-i-preserved c = ( search rules, are_votes_step c.args.votes.now c.loop-i.i c.loop-i-test.true (passed c.is_vote_state.ensures c.if-not-is_vote_state.false) ∙ c.loop-i.invariant.1, )
+loop-i-preserved c = (search rules, are_votes_step c.args.votes.now c.loop-i.i c.loop-i-test.true (passed c.is_vote_state.ensures c.if-not-is_vote_state.false) ∙ c.loop-i.invariant.1)
 
 pub returns : goal.returns
 returns c = sym (are_votes_end c.args.votes.now c.loop-i.i c.loop-i-test.false) ∙ c.loop-i.invariant.1

@@ -8,7 +8,7 @@ pub loop-j-init : goal.loop-j-init
 loop-j-init c = (search rules, gathered_none _ _ _)
 
 pub loop-j-preserved : goal.loop-j-preserved
-loop-j-preserved c = ( search rules, gathered_step _ _ _ _ _ c.before.before.before.before.before.loop.invariant.1 (rw (c.before.before.before.before.before.loop.invariant.1.size, c.requires.0) c.before.before.before.before.loop-test.true) c.gather.result c.gather.ensures, )
+loop-j-preserved c = (search rules, gathered_step _ _ _ _ _ c.loop-j.invariant.1 (rw (c.loop-j.invariant.1.size, c.requires.0) c.loop-j-test.true) c.gather.result c.gather.ensures)
 
 pub returns : goal.returns
 returns c = gathered_all _ 16 c.loop-j.invariant.0 c.loop-j-test.false _ _ _ _ c.loop-j.invariant.1

@@ -5,7 +5,7 @@ use Rattle.votes.specs.Votes.Laws.Lanes.{Gathered, gathered_none, gathered_step,
 use Rattle.votes.proofs.gather_lanes.Given as goal
 
 abbrev pub invariant-loop-j : goal.invariant-loop-j
-invariant-loop-j l = (l.j ≤ 16) × Gathered l.j l.lanes l.votes l.initial.lanes l.initial.j
+invariant-loop-j l = (l.j ≤ 16) × Gathered l.j l.votes l.at l.initial.lanes l.lanes
 
 abbrev pub decreases-loop-j : goal.decreases-loop-j
 decreases-loop-j l = 16 - l.j

@@ -10,7 +10,7 @@ pub loop-k-init : goal.loop-k-init
 loop-k-init c = (search rules, λ e. clear_none _)
 
 pub loop-k-preserved : goal.loop-k-preserved
-loop-k-preserved c = ( search rules, λ e. let p = c.either-any.ensures e in clear_step _ _ (c.before.before.before.loop.invariant.1 p.0) p.1, )
+loop-k-preserved c = (search rules, λ e. let p = c.either-any.ensures e in clear_step _ _ (c.loop-k.invariant.1 p.0) p.1)
 
 pub returns : goal.returns
-returns c = clear_all _ 6 c.loop-k-test.false _ (c.loop-k.invariant.1 (eqb-true _ _ e))
+returns c e = clear_all _ 6 c.loop-k-test.false _ (c.loop-k.invariant.1 (eqb-true _ _ e))

@@ -7,7 +7,7 @@ use Rattle.votes.specs.Votes.Laws.Lanes.{Clear, clear_none, clear_step, clear_al
 use Rattle.votes.proofs.is_clear.Given as goal
 
 abbrev pub invariant-loop-k : goal.invariant-loop-k
-invariant-loop-k l = (l.k ≤ 6) × (l.initial.k ≡ 0 → Clear l.k l.lanes)
+invariant-loop-k l = (l.k ≤ 6) × (l.any ≡ 0 → Clear l.k l.lanes)
 
 abbrev pub decreases-loop-k : goal.decreases-loop-k
 decreases-loop-k l = 6 - l.k

@@ -10,8 +10,8 @@ use Rattle.votes.proofs.leading_votes.Given as goal
 
 abbrev pub invariant-loop-i : goal.invariant-loop-i
 invariant-loop-i l =
-    (l.i ≤ length l.votes) × (length l.initial.third ≡ 16) × (length l.third ≡ 16) × (length l.initial.i ≡ 16) ×
-    (Clear 6 l.initial.third → Clear 6 l.third → Clear 6 l.initial.i → are_votes (drop l.i l.votes) ≡ are_votes l.votes)
+    (l.i ≤ length l.votes) × (length l.first ≡ 16) × (length l.second ≡ 16) × (length l.third ≡ 16) ×
+    (Clear 6 l.first → Clear 6 l.second → Clear 6 l.third → are_votes (drop l.i l.votes) ≡ are_votes l.votes)
 
 abbrev pub decreases-loop-i : goal.decreases-loop-i
 decreases-loop-i l = length l.votes - l.i

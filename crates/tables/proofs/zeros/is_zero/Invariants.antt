@@ -15,7 +15,7 @@ abbrev zero_at : List ℕ → ℕ → Bool
 zero_at l k = eqb (get_or l k 0) 0
 
 abbrev pub invariant-loop-i : goal.invariant-loop-i
-invariant-loop-i l = (l.i ≤ l.half) × (eqb l.initial.i 0 ≡ (each (zero_at l.bytes) 0 l.i && each (zero_at l.bytes) l.half l.i))
+invariant-loop-i l = (l.i ≤ l.half) × (eqb l.any 0 ≡ (each (zero_at l.bytes) 0 l.i && each (zero_at l.bytes) l.half l.i))
 
 abbrev pub decreases-loop-i : goal.decreases-loop-i
 decreases-loop-i l = l.half - l.i
