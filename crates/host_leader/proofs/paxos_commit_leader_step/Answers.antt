@@ -1,5 +1,4 @@
 -- `host_leader::paxos_commit_leader_step` meets its contract: the step, and the number of its answer. Assumes nothing.
-use borrow.Author.Rules.{rules}
 use Rattle.host_leader.specs.Code.Laws.{leader_coded}
 use Rattle.host_leader.proofs.paxos_commit_leader_step.Goals as goal
 

@@ -6,13 +6,6 @@ use Rattle.message.proofs.Guards.{told, halt, pass}
 use Rattle.host_record.specs.Code.{ending_number, ending_outcome, ending_code}
 use Rattle.host_record.proofs.paxos_commit_ending.Goals as goal
 
--- past each test: where the test before it was passed
-abbrev plan : tie.Else2 → tie.Else1
-plan c = c.before
-
-abbrev whole : tie.Else3 → tie.Else2
-whole c = c.before.before
-
 pub returns-then-not-is_plan : goal.returns-then-not-is_plan
 unfolding ending_outcome
 returns-then-not-is_plan c = ap ending_code (halt _ _ _ (told c.is_plan.ensures c.if-not-is_plan.true))
@@ -25,19 +18,16 @@ returns-then-states-rms c =
 pub returns-then-not-are_states : goal.returns-then-not-are_states
 unfolding ending_outcome
 returns-then-not-are_states c =
-    let first = plan «PLACE Else2» in
     ap ending_code
-    (pass _ _ _ (told first.before.is-plan.ensures first.if1.left)
+    (pass _ _ _ (told c.is_plan.ensures c.if-not-is_plan.false)
     (pass _ _ _ (ap not (eq-eqb _ _ c.if-states-rms.false))
     (halt _ _ _ (told c.are_states.ensures c.if-not-are_states.true))))
 
 pub returns : goal.returns
 unfolding ending_outcome
 returns c =
-    let second = whole «PLACE Else3» in
-    let first = plan second in
     c.ending_number.ensures ∙ ap ending_number c.ending_of.ensures
     ∙ ap ending_code
-    (pass _ _ _ (told first.before.is-plan.ensures first.if1.left)
-    (pass _ _ _ (ap not (eq-eqb _ _ second.if2.left))
+    (pass _ _ _ (told c.is_plan.ensures c.if-not-is_plan.false)
+    (pass _ _ _ (ap not (eq-eqb _ _ c.if-states-rms.false))
     (pass _ _ _ (told c.are_states.ensures c.if-not-are_states.false) refl)))

@@ -1,8 +1,7 @@
 -- `host_record::paxos_commit_open` meets its contract: opening, and the number of its answer. Assumes nothing.
-use borrow.Author.Rules.{rules}
 use Rattle.host_record.specs.Code.Laws.{opening_coded}
 use Rattle.host_record.proofs.paxos_commit_open.Goals as goal
 
 pub returns : goal.returns
 returns c =
-    opening_coded «PLACE After-open».«open».ensures c.judged_number.ensures
+    opening_coded c.«open».ensures c.judged_number.ensures

@@ -1,5 +1,4 @@
 -- `host_record::paxos_commit_step` meets its contract: the event call, and the number of its answer. Assumes nothing.
-use borrow.Author.Rules.{rules}
 use Rattle.host_record.specs.Code.Laws.{event_coded}
 use Rattle.host_record.proofs.paxos_commit_step.Goals as goal
 

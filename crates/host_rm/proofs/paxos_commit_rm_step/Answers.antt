@@ -1,5 +1,4 @@
 -- `host_rm::paxos_commit_rm_step` meets its contract: the step, and the number of its answer. Assumes nothing.
-use borrow.Author.Rules.{rules}
 use Rattle.host_code.specs.Code.Laws.{coded}
 use Rattle.host_rm.proofs.paxos_commit_rm_step.Goals as goal
 
