@@ -2,7 +2,8 @@
 # Rules that ./test sees to without the prover.
 #
 #     tests/contracts.sh sources DIR        the sources below DIR/crates keep the rules below
-#     tests/contracts.sh passed DIR FILE    the last line of FILE, what `rt ci` printed, counts at least as many as DIR/tests/passed says
+#     tests/contracts.sh passed DIR FILE    the last line of FILE, what `rt ci` printed, counts at least as many as DIR/tests/passed says, and its line
+#                                           `rt: ok` no bad must-fail edit, which is one that can't be tried
 #
 # The rules for sources, in tests/contracts/:
 #     words.awk        the text is what it seems: known letters and signs, no comment but at a line's end, no string over lines
@@ -52,14 +53,29 @@ sources() {
 passed() {
     stated=$(cat "$1/tests/passed")
     line=$(tail -n 1 "$2")
+    number=${line%% passed, 0 failed*}
     case $line in
-    *[!0-9]*' passed, 0 failed' | ' passed, 0 failed') number=0 ;;
-    *' passed, 0 failed') number=${line%% *} ;;
+    *'not the gate'*) number=0 ;;
+    *' passed, 0 failed' | *' passed, 0 failed '*) ;;
     *) number=0 ;;
     esac
-    [ "$number" -ge "$stated" ] && return
-    echo "too few: the last line is \`$line\`, and tests/passed says $stated"
-    return 1
+    case $number in
+    '' | *[!0-9]*) number=0 ;;
+    esac
+    if [ "$number" -lt "$stated" ]; then
+        echo "too few: the last line is \`$line\`, and tests/passed says $stated"
+        return 1
+    fi
+    told=$(grep '^rt: ok' "$2") || {
+        echo "there is no line \`rt: ok\`"
+        return 1
+    }
+    case $(printf '%s\n' "$told" | grep -E ', 0*[1-9][0-9]* bad') in
+    ?*)
+        echo "a must-fail edit can't be tried: $told"
+        return 1
+        ;;
+    esac
 }
 
 case ${1-} in

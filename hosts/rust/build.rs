@@ -1,7 +1,7 @@
 //! Finds the static libraries of the enabled features and links them.
 //!
 //! They stand in the folder that PAXOS_COMMIT_LIB_DIR names; where it is not set, in target/staticlib of the repository
-//! that this crate is part of, where `rt staticlib NAME` writes them.
+//! that this crate is part of, where the first commands of docs/HOSTS.md put what `rt lib` makes of each.
 
 use std::env;
 use std::path::{Path, PathBuf};
@@ -64,5 +64,8 @@ fn archive(folder: &Path, name: &str) -> PathBuf {
 }
 
 fn commands(names: &[&str]) -> String {
-    names.iter().map(|name| format!(" rt staticlib {name};")).collect::<String>().trim_end_matches(';').to_string()
+    let made =
+        |name: &&str| format!(" (cd crates/{name} && rt lib) && cp crates/{name}/out/lib{name}.a target/staticlib/;");
+    let all = names.iter().map(made).collect::<String>();
+    format!(" mkdir -p target/staticlib;{}", all.trim_end_matches(';'))
 }

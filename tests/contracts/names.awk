@@ -1,44 +1,66 @@
-# What a name means. A name of the list below is imported from its home alone, and nothing else is declared, bound or imported under it. A name
-# that is declared or bound is a word, so that it looks like no claim, and hides nothing that the file imports or declares for others.
-function of(module, names,    list, n) { for (n = split(names, list, " "); n; n--) home[list[n]] = module "." list[n] }
+# What a name means. A name of the list below is imported from its home alone, or from where the library passes it on, and nothing else is declared,
+# bound or imported under it. A name that is declared or bound is a word, so that it looks like no claim, and hides nothing that the file imports or
+# declares for others.
+function of(modules, names,    list, from, n, m) {
+    split(modules, from, " ")
+    for (n = split(names, list, " "); n; n--) {
+        home[list[n]] = from[1] "." list[n]
+        for (m in from) { at_home[from[m] "." list[n]] = list[n]; modules_of(from[m]) }
+    }
+}
+# The modules of a path, from the library down.
+function modules_of(path) { while (path != "") { module[path] = 1; if (!sub(/[.][^.]*$/, "", path)) path = "" } }
 function each(words, set,    list, n) { for (n = split(words, list, " "); n; n--) set[list[n]] = 1 }
 BEGIN {
-    of("Prim", "⊥ Unit tt absurd ¬_ Dec yes no Id J IsProp IsSet Discrete ∥_∥₁ ∣_∣₁ squash₁")
-    of("Prim.Native.Nat", "ℕ zero suc _+_ _*_ _-_ _/_ _%_ _^_ _<_ _≤_ min max")
+    # what the library itself passes on
+    prelude = " Rattle.std.specs.Prelude Rattle.core.specs.Prelude Rattle.std.proofs.Common"
+    math = "Rattle.std.proofs.Math."
+    lemmas = " Rattle.std.proofs.lemmas.List"
+    of("Prim", "⊥ Unit tt absurd ¬◌ Dec yes no Id J IsProp IsSet Discrete ∥◌∥₁ ∣◌∣₁ squash₁")
+    of("Prim.Native.Nat" prelude, "ℕ zero suc pred ◌+◌ ◌*◌ ◌-◌ ◌/◌ ◌%◌ ◌^◌ ◌<◌ ◌≤◌ min max")
     of("Prim.Native.Char", "code")
     of("Prim.Native.String", "String")
-    of("mathlib.Core.Path", "_≡_ refl sym _∙_ ap")
-    of("mathlib.Core.Bool", "Bool true false not _&&_ _||_ cond")
-    of("mathlib.Core.List", "List [] _∷_ _++_ map List·Memᴰ List·Memᴰ·head List·Memᴰ·tail List·Memᴰ·not-nil")
-    of("mathlib.Core.Logic", "_⊎_ inl inr ⊎-elim _↔_")
-    of("lib.ListN", "length getD take drop set replicate length-append length-drop length-replicate length-set")
-    of("lib.ListN", "List·getD-append List·getD-eq-default")
-    of("lib.Seq", "sets drop-append-le ext-getD getD-set-other getD-set-same take-append-le")
-    of("lib.Dec", "eqb ltb leb")
-    of("lib.Bits", "bitOr bitAnd bitXor")
-    of("native.Mathlib.Decide", "decLe decLt ℕ-discrete")
-    of("native.Mathlib.Omega", "arith")
-    of("borrow.Author.Tests", "le-ltb lt-ltb")
-    of("denote.Ref", "now")
+    of("mathlib.Core.Path " math "Path" prelude, "◌≡◌ refl sym ◌∙◌ ap")
+    of("mathlib.Core.Bool " math "Bool" prelude, "Bool true false not ◌&&◌ ◌||◌ cond")
+    of("mathlib.Core.List" prelude, "List [] ◌∷◌ ◌++◌ map reverse Memᴰ")
+    of("mathlib.Core.Logic " math "Logic" prelude, "◌⊎◌ ◌↔◌ ◌≢◌ inl inr ⊎_elim")
+    of("lib.ListN " math "ListN" prelude, "length get_or take drop set replicate")
+    of("lib.ListN " math "ListN Rattle.std.proofs.Common" lemmas, "length-append length-drop length-replicate length-set get_or-append get_or-eq_default")
+    of("lib.Seq " math "Seq Rattle.std.proofs.Common" lemmas, "drop-append-le ext_get_or get_or-set_other get_or-set_same take-append-le")
+    of("lib.Seq " math "Seq Rattle.std.proofs.lemmas.List.Edits", "sets")
+    of("lib.Dec " math "Dec" prelude, "T eqb ltb leb lit< lit≤")
+    of("lib.Bits Rattle.std.specs.Int.Bits" prelude, "bit_or bit_and bit_xor")
+    of("native.Mathlib.Decide " math "Decide", "dec_le dec_lt ℕ_discrete")
+    of("native.Mathlib.Omega Rattle.std.proofs.Common", "arith")
+    of("borrow.Author.Tests Rattle.std.proofs.Common", "le-ltb lt-ltb")
+    of(substr(prelude, 2), "ℤ negsuc ◌+ℤ◌ ◌-ℤ◌ ◌*ℤ◌ neg_ℤ nat_abs ◌≤ℤ◌ ◌<ℤ◌ ◌==◌ if◌then◌else◌ ⊤ IsTrue IsFalse nat_eq nat_lt nat_le" \
+        " is_some is_none SomeIff IsSomeAnd IfSome IfNone OnSome IsSome IsNone is_ok is_err OkIff IsOkAnd IsErrAnd IfOk IfErr OnOk OnErr IsOkUnless" \
+        " IsOk IsErr IsErrOf MatchOption MatchResult MatchBool Option slice_get slice_index slice_index_or slice_set slice_range EachIndex" \
+        " SomeIndex All Any Contains AllPairs HoldsAt sum sum_by count_by count_ones unsigned_abs int_lt int_le int_div int_rem FitsSigned IsBitSet" \
+        " IsPermutation IsSorted IsSortedBy IsSortedByKey")
+    of(substr(prelude, 2) " Rattle.core.specs.declared.option.Option.TheVariants Rattle.core.specs.declared.result.Result.TheVariants", "Some Ok Err")
+    of("Rattle.std.specs.Io.KnownBytes", "Appends Consumes IsAtEnd")
     home["[]ˢ"] = "Prim.Native.String.[]"
-    home["_∷ˢ_"] = "Prim.Native.String._∷_"
+    home["◌∷ˢ◌"] = "Prim.Native.String.◌∷◌"
+    at_home["Prim.Native.String.[]"] = "[]ˢ"
+    at_home["Prim.Native.String.◌∷◌"] = "◌∷ˢ◌"
     for (name in home) looks[drawn(name)] = name
     # a pattern has these, and binds them where they are not imported
-    each("zero suc true false [] []ˢ inl inr yes no List·Memᴰ·head List·Memᴰ·tail", constructor)
+    each("zero suc true false [] []ˢ inl inr yes no negsuc Some Ok Err Memᴰ.head Memᴰ.tail", constructor)
     # variables of the sources have these names too: only their import is held to the list
-    each("map code no", variable)
-    each("Prim mathlib lib native denote borrow", library)
+    each("map code no sum T", variable)
+    each("Prim Rattle mathlib lib native denote borrow mir", library)
     each("axiom Axiom lem postulate sorry admit trusted unsafe", no_proof)
     # they bring, bind or join names in ways that are not read here
-    each("open mutual infix infixl infixr do package", unread)
+    each("open mutual infix infixl infixr do package pattern syntax", unread)
     each("data record deriving module where use mod pub package using open as unfoldable abbrev axiom unfold unfolding ruleset mutual" \
-        " infix infixl infixr elim let in do", reserved)
+        " infix infixl infixr elim let in do pattern", reserved)
     # what else than ASCII the sources are written in
-    signs = "→|←|↔|↦|⇒|×|≡|≢|≤|∷|∙|·|⊥|⊎|∪|∈|∧|□|λ|κ|μ|ℕ|′|ᴰ|ˢ|₀|₁|₂|₃|⌜|⌝|⟨|⟩|«|»"
-    plain = "^([A-Za-z0-9]([A-Za-z0-9-]|′|\047|₀|₁|₂|₃)*|_|κs|μ-loop2?)$"
+    signs = "→|←|↔|↦|⇒|×|≡|≢|≤|∷|∙|⊥|⊤|⊎|∪|∈|∧|□|◌|λ|κ|ℕ|ᴰ|ˢ|₀|₁|₂|₃|⟨|⟩|«|»"
+    plain = "^([A-Za-z0-9]([A-Za-z0-9-]|_[A-Za-z0-9]|\047|₀|₁|₂|₃)*|_|κs)$"
 }
-# A name with one letter for all that are drawn alike.
-function drawn(name) { gsub(/[I1]/, "l", name); gsub(/O/, "0", name); return name }
+# A name with one letter for all that are drawn alike, and no other way to join its words.
+function drawn(name) { gsub(/[I1]/, "l", name); gsub(/O/, "0", name); gsub(/_/, "-", name); return name }
 
 function other_meaning(k, name) { fault(place[k], "gives `" name "`, which is " home[name] ", another meaning") }
 function is_library(k, name) { fault(place[k], "`" name "` is a library, and the name of nothing else") }
@@ -141,11 +163,12 @@ function use_item(k, path, item,    name) {
 }
 function imported(k, path, name, item) {
     if (name == "*" || rattle && !item) fault(place[k], "a `use` that does not name each thing that it brings")
-    if (name in home) { if (path != home[name]) other_meaning(k, name) }
-    else if (item && name ~ /_/ && name !~ /^«/) fault(place[k], "`" name "` is an operator that the sources do not use")
+    if (name in home) { if (at_home[path] != name) other_meaning(k, name) }
+    else if (item && name ~ /◌/) fault(place[k], "`" name "` is an operator that the sources do not use")
     if (name in library) is_library(k, name)
     if (item) known[name] = 0
-    if (path ~ /[.]the-variants[.]/ || path !~ /^Rattle·/) made_by[name] = 1
+    if (item && (path !~ /^Rattle[.]/ || path ~ /^Rattle[.](core|std(_[a-z]+)?)[.]/)) of_library[name] = 1
+    if (path ~ /[.]TheVariants[.]/ || item && name in of_library) made_by[name] = 1
 }
 
 # A word of antt that is wrong wherever it stands, and one that is wrong in a term: a name of the list is no field and no part of a path.
@@ -155,11 +178,20 @@ function any_word(k,    name) {
     if (name in unread && dot[k - 1] != "path") fault(place[k], "`" name "` is a form that the sources do not use")
     if (name !~ /«|»/) return
     gsub(/^«|»$/, "", name)
-    if (!(name in reserved) && name !~ /^[a-z][a-z0-9]*(_[a-z0-9]+)+$/) fault(place[k], token[k] " is quoted without need")
+    if (!(name in reserved)) fault(place[k], token[k] " is quoted without need")
 }
-function term_word(k) {
+function path_to(k,    path) {
+    for (path = token[k]; dot[k - 1] == "path" && token[k - 2] !~ /^[])}]$/; k -= 2) path = token[k - 2] "." path
+    return path
+}
+function term_word(k,    path) {
     if (!(token[k] in home) || token[k] in variable) return
-    if (dot[k + 1] == "path" || token[k] != "now" && dot[k - 1] ~ /^(field|path)$/) other_meaning(k, token[k])
+    # what Rattle makes of the two ways of an `if`
+    if (token[k] ~ /^(true|false)$/ && dot[k - 1] == "path" && token[k - 2] ~ /^[a-z]/) return
+    if (token[k] == "Memᴰ" && token[k + 2] ~ /^(head|tail|not-nil|append_(cases|left|right)|eq_of_singleton)$/) return
+    if (dot[k + 1] != "path" && dot[k - 1] !~ /^(field|path)$/) return
+    path = path_to(k)
+    if (!(path in module) && at_home[path] != token[k]) other_meaning(k, token[k])
 }
 
 # What the signature with its `:` at k declares. What stands below a `record` or `data` is a field or a constructor.
@@ -198,6 +230,7 @@ function is_stated(k,    j) {
 
 function antt_file(    k) {
     split("", known)
+    split("", of_library)
     split("", made_here)
     split("", field)
     split("", unfolds)

@@ -8,7 +8,7 @@
 #     partner[k]    of a bracket, the other one
 #     outer[k]      the bracket that it stands in, or 0
 #     remark[k]     a comment stands right after it
-#     dot[k]        of a dot in antt: "end" where a space follows, as after binders; "field" where one stands before it; else "path"
+#     dot[k]        of a dot in antt: "end" where a space follows, as after binders; "field" where one stands before it; else "path", also of a field
 function fault(line, words) { print file ":" line ": " words; bad = 1 }
 
 function add(word, kind) {
@@ -77,8 +77,14 @@ function rattle_word(text) {
     match(text, /^([A-Za-z_0-9]+|.)/)
     add(substr(text, 1, RLENGTH))
     if (token[count] == "use" && token[count - 1] == "ghost") mode = "use"
-    if (token[count] == "{" && token[count - 1] ~ /^(requires|ensures)$/) { mode = "clause"; clause_at = count }
+    if (token[count] == "{" && clause_word_before(count)) { mode = "clause"; clause_at = count }
     return substr(text, RLENGTH + 1)
+}
+# The `requires` or `ensures` whose bracket stands at k, or 0. Between them there may be a `*` and a name.
+function clause_word_before(k) {
+    if (token[--k] ~ /^[a-z_0-9]+$/ && token[k - 1] ~ /^(requires|ensures|[*])$/) k--
+    if (token[k] == "*") k--
+    return token[k] ~ /^(requires|ensures)$/ ? k : 0
 }
 function antt_word(text) {
     if (text ~ /^([{]-|--|[^ (){}.;,@"]*\/[\/*])/) fault(FNR, "a comment in a clause or a `ghost use`")

@@ -8,12 +8,19 @@
 //     Head, head_of                   which call, the plan, and the lengths of its four parts
 //     say_read, say_write             what the reader and the writer answer
 //     run_step, say_sent, say_answer, say_step  what a role's step answers and stores
+//     read_full                       bytes of standard input
 //     run_call, run_parts, read_call  a call read into buffers, made on their parts, and its line
+//     read_calls                      all calls
 //
-// Each function is proved to be safe and to end; none has a contract on its result. Assumes nothing of its own.
+// A read or a write that fails ends the program with its error.
+//
+// Each function is proved to be safe and to end; none has a contract on what is printed. Assumes nothing of its own.
+ghost use Rattle.std.specs.Prelude.{◌≡◌, ◌≤◌, length, IfOk};
+
 use change::{Answer, Sent};
-use libc::{STDIN_FILENO, STDOUT_FILENO};
 use message::{Message, Plan, Read, Vote};
+use std::io;
+use std::io::{BufReader, BufWriter, Write};
 
 const MAX_CALLS: usize = 65536;
 
@@ -51,49 +58,72 @@ fn head_of(b: &[u8; 14]) -> Head {
     }
 }
 
-fn say(words: &[u8]) {
-    io::write_all(STDOUT_FILENO, words);
+// 4,096 zeros.
+fn buffer() -> [u8; 4096]
+    ensures { 4096 ≡ length result }
+{
+    [0; 4096]
 }
 
-fn say_number(number: u64) {
-    io::print_decimal(STDOUT_FILENO, number);
+// 65,536 zeros.
+fn large_buffer() -> [u8; 65536]
+    ensures { 65536 ≡ length result }
+{
+    [0; 65536]
+}
+
+// Reads until the buffer is full or the input ends: how many bytes begin the buffer.
+fn read_full<R: io::Read>(input: &mut R, buffer: &mut [u8]) -> io::Result<usize>
+    ensures { IfOk result (λ count. count ≤ length buffer.new) }
+{
+    let mut done: usize = 0;
+    while done < buffer.len() {
+        let more = input.read(&mut buffer[done..])?;
+        if more == 0 {
+            return Ok(done);
+        }
+        done += more;
+    }
+    Ok(done)
+}
+
+fn say<W: Write>(output: &mut W, words: &[u8]) -> io::Result<()> {
+    output.write_all(words)
+}
+
+fn say_number<W: Write>(output: &mut W, number: u64) -> io::Result<()> {
+    write!(output, "{number}")
 }
 
 // A field of a message, after a space.
-fn say_field(field: u8) {
-    say(b" ");
-    say_number(field as u64);
+fn say_field<W: Write>(output: &mut W, field: u8) -> io::Result<()> {
+    write!(output, " {field}")
 }
 
-fn say_hex(byte: u8) {
-    io::print_hex(STDOUT_FILENO, byte as u64, 2);
-}
-
-fn say_bytes(bytes: &[u8]) {
-    let mut i: usize = 0;
-    while i < bytes.len() {
-        say_hex(bytes[i]);
-        i += 1;
+fn say_bytes<W: Write>(output: &mut W, bytes: &[u8]) -> io::Result<()> {
+    for byte in bytes {
+        write!(output, "{byte:02x}")?;
     }
+    Ok(())
 }
 
-fn say_vote(vote: Vote) {
+fn say_vote<W: Write>(output: &mut W, vote: Vote) -> io::Result<()> {
     match vote {
-        Vote::None => say(b" -"),
+        Vote::None => say(output, b" -"),
         Vote::Cast { bal, val } => {
-            say_field(bal);
-            say_field(val);
+            say_field(output, bal)?;
+            say_field(output, val)
         }
     }
 }
 
 // The message's kind and its fields.
-fn say_message(m: Message) {
+fn say_message<W: Write>(output: &mut W, m: Message) -> io::Result<()> {
     match m {
         Message::Phase1a { ins, bal } => {
-            say(b"1a");
-            say_field(ins);
-            say_field(bal);
+            say(output, b"1a")?;
+            say_field(output, ins)?;
+            say_field(output, bal)
         }
         Message::Phase1b {
             ins,
@@ -101,40 +131,39 @@ fn say_message(m: Message) {
             mbal,
             vote,
         } => {
-            say(b"1b");
-            say_field(ins);
-            say_field(acc);
-            say_field(mbal);
-            say_vote(vote);
+            say(output, b"1b")?;
+            say_field(output, ins)?;
+            say_field(output, acc)?;
+            say_field(output, mbal)?;
+            say_vote(output, vote)
         }
         Message::Phase2a { ins, bal, val } => {
-            say(b"2a");
-            say_field(ins);
-            say_field(bal);
-            say_field(val);
+            say(output, b"2a")?;
+            say_field(output, ins)?;
+            say_field(output, bal)?;
+            say_field(output, val)
         }
         Message::Phase2b { ins, acc, bal, val } => {
-            say(b"2b");
-            say_field(ins);
-            say_field(acc);
-            say_field(bal);
-            say_field(val);
+            say(output, b"2b")?;
+            say_field(output, ins)?;
+            say_field(output, acc)?;
+            say_field(output, bal)?;
+            say_field(output, val)
         }
         Message::Decision { val } => {
-            say(b"decision");
-            say_field(val);
+            say(output, b"decision")?;
+            say_field(output, val)
         }
     }
 }
 
 // What the reader answers: the message, or the refusal.
-fn say_read(plan: Plan, bytes: &[u8]) {
+fn say_read<W: Write>(output: &mut W, plan: Plan, bytes: &[u8]) -> io::Result<()> {
     let answer = codec::read_message(plan, bytes);
     let Read::Message(m) = answer else {
-        say_number(codec::read_refusal(answer) as u64);
-        return;
+        return say_number(output, codec::read_refusal(answer) as u64);
     };
-    say_message(m);
+    say_message(output, m)
 }
 
 // The writer's message: its kind (0 1a, 1 and 2 a 1b without and with a vote, 3 2a, 4 2b, 5 decision), and ins, acc, mbal, bal and val.
@@ -166,14 +195,14 @@ fn raw_message(b: &[u8]) -> Message {
 }
 
 // What the writer answers: number, eight bytes, length.
-fn say_write(plan: Plan, m: Message) {
+fn say_write<W: Write>(output: &mut W, plan: Plan, m: Message) -> io::Result<()> {
     let written = codec::write_message(plan, m);
     let bytes = written.bytes;
-    say_number(written.number as u64);
-    say(b" ");
-    say_bytes(&bytes);
-    say(b" ");
-    say_number(written.len as u64);
+    say_number(output, written.number as u64)?;
+    say(output, b" ")?;
+    say_bytes(output, &bytes)?;
+    say(output, b" ")?;
+    say_number(output, written.len as u64)
 }
 
 // The step of the role; any number above 1 is a leader's, which alone is lent the summary.
@@ -193,153 +222,158 @@ fn run_step(
 }
 
 // The answer: 0 with the slot, 0 with - for quiet, or the refusal.
-fn say_sent(sent: Sent) {
+fn say_sent<W: Write>(output: &mut W, sent: Sent) -> io::Result<()> {
     match sent {
         Sent::Slot(slot) => {
-            say(b"0 ");
-            say_number(slot as u64);
+            say(output, b"0 ")?;
+            say_number(output, slot as u64)
         }
-        Sent::Quiet => say(b"0 -"),
+        Sent::Quiet => say(output, b"0 -"),
     }
 }
 
-fn say_answer(answer: Answer) {
+fn say_answer<W: Write>(output: &mut W, answer: Answer) -> io::Result<()> {
     match answer {
-        Answer::Accepted(sent) => say_sent(sent),
-        Answer::Refused(number) => say_number(number as u64),
+        Answer::Accepted(sent) => say_sent(output, sent),
+        Answer::Refused(number) => say_number(output, number as u64),
     }
 }
 
 // Copies `from` to the beginning of `to`, as far as it has room.
 fn copy_bytes(from: &[u8], to: &mut [u8]) {
-    let mut i: usize = 0;
-    while i < from.len() {
-        if to.len() <= i {
-            return;
-        }
-        to[i] = from[i];
-        i += 1;
-    }
+    let count = from.len().min(to.len());
+    to[..count].copy_from_slice(&from[..count]);
 }
 
 // Whether the bytes of `a` are the first of `b`.
 fn same_bytes(a: &[u8], b: &[u8]) -> bool {
-    let mut i: usize = 0;
-    while i < a.len() {
-        if a[i] != message::byte_at(b, i) {
+    for (i, byte) in a.iter().enumerate() {
+        if *byte != message::byte_at(b, i) {
             return false;
         }
-        i += 1;
     }
     true
 }
 
 // A table after a step: `=` where it kept every byte.
-fn say_table(table: &[u8], old: &[u8]) {
+fn say_table<W: Write>(output: &mut W, table: &[u8], old: &[u8]) -> io::Result<()> {
     if same_bytes(table, old) {
-        say(b" =");
-        return;
+        return say(output, b" =");
     }
-    say(b" [");
-    say_bytes(table);
-    say(b"]");
+    say(output, b" [")?;
+    say_bytes(output, table)?;
+    say(output, b"]")
 }
 
 // Makes the step and prints the answer and the three tables.
-fn say_step(
+fn say_step<W: Write>(
+    output: &mut W,
     role: u8,
     plan: Plan,
     table: &mut [u8],
     summary: &mut [u8],
     network: &mut [u8],
     event: &[u8],
-) {
-    let mut old_table = io::large_buffer();
-    let mut old_summary = io::buffer();
-    let mut old_network = io::large_buffer();
+) -> io::Result<()> {
+    let mut old_table = large_buffer();
+    let mut old_summary = buffer();
+    let mut old_network = large_buffer();
     copy_bytes(table, &mut old_table);
     copy_bytes(summary, &mut old_summary);
     copy_bytes(network, &mut old_network);
-    say_answer(run_step(role, plan, table, summary, network, event));
-    say_table(table, &old_table);
-    say_table(summary, &old_summary);
-    say_table(network, &old_network);
+    let answer = run_step(role, plan, table, summary, network, event);
+    say_answer(output, answer)?;
+    say_table(output, table, &old_table)?;
+    say_table(output, summary, &old_summary)?;
+    say_table(output, network, &old_network)
 }
 
-fn run_call(
+fn run_call<W: Write>(
+    output: &mut W,
     call: u8,
     plan: Plan,
     table: &mut [u8],
     summary: &mut [u8],
     network: &mut [u8],
     bytes: &[u8],
-) {
+) -> io::Result<()> {
     match call {
-        3 => say_read(plan, bytes),
-        4 => say_write(plan, raw_message(bytes)),
-        _ => say_step(call, plan, table, summary, network, bytes),
+        3 => say_read(output, plan, bytes),
+        4 => say_write(output, plan, raw_message(bytes)),
+        _ => say_step(output, call, plan, table, summary, network, bytes),
     }
 }
 
 // Reads the call's parts into the first bytes of the buffers, and makes it on them. Where one is too long for a buffer, nothing
 // is printed.
-fn run_parts(
+fn run_parts<R: io::Read, W: Write>(
+    input: &mut R,
+    output: &mut W,
     head: Head,
     tables: &mut [u8],
     summaries: &mut [u8],
     networks: &mut [u8],
     buffer: &mut [u8],
-) {
+) -> io::Result<()> {
     let table_end = head.table;
     let summary_end = head.summary;
     let network_end = head.network;
     let bytes_end = head.bytes;
     if tables.len() < table_end {
-        return;
+        return Ok(());
     }
     if summaries.len() < summary_end {
-        return;
+        return Ok(());
     }
     if networks.len() < network_end {
-        return;
+        return Ok(());
     }
     if buffer.len() < bytes_end {
-        return;
+        return Ok(());
     }
     let table = &mut tables[..table_end];
     let summary = &mut summaries[..summary_end];
     let network = &mut networks[..network_end];
     let bytes = &mut buffer[..bytes_end];
-    io::read_full(STDIN_FILENO, table);
-    io::read_full(STDIN_FILENO, summary);
-    io::read_full(STDIN_FILENO, network);
-    io::read_full(STDIN_FILENO, bytes);
-    run_call(head.call, head.plan, table, summary, network, bytes);
+    read_full(input, table)?;
+    read_full(input, summary)?;
+    read_full(input, network)?;
+    read_full(input, bytes)?;
+    run_call(output, head.call, head.plan, table, summary, network, bytes)
 }
 
-fn read_call(head: Head) {
-    let mut tables = io::large_buffer();
-    let mut summaries = io::buffer();
-    let mut networks = io::large_buffer();
-    let mut buffer = io::large_buffer();
+fn read_call<R: io::Read, W: Write>(input: &mut R, output: &mut W, head: Head) -> io::Result<()> {
+    let mut tables = large_buffer();
+    let mut summaries = buffer();
+    let mut networks = large_buffer();
+    let mut bytes = large_buffer();
     run_parts(
+        input,
+        output,
         head,
         &mut tables,
         &mut summaries,
         &mut networks,
-        &mut buffer,
-    );
-    say(b"\n");
+        &mut bytes,
+    )?;
+    say(output, b"\n")
 }
 
-fn main() {
-    let mut k: usize = 0;
-    while k < MAX_CALLS {
+// Makes the calls that stand in the input, one after the other.
+fn read_calls<R: io::Read, W: Write>(input: &mut R, output: &mut W) -> io::Result<()> {
+    for _ in 0..MAX_CALLS {
         let mut bytes = [0u8; 14];
-        if io::read_full(STDIN_FILENO, &mut bytes) < 14 {
-            return;
+        if read_full(input, &mut bytes)? < 14 {
+            return Ok(());
         }
-        read_call(head_of(&bytes));
-        k += 1;
+        read_call(input, output, head_of(&bytes))?;
     }
+    Ok(())
+}
+
+fn main(rt: HostRuntime) -> io::Result<()> {
+    let mut input = BufReader::new(rt.alloc(), rt.stdin())?;
+    let mut output = BufWriter::new(rt.alloc(), rt.stdout())?;
+    read_calls(&mut input, &mut output)?;
+    output.flush()
 }
