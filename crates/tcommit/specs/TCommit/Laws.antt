@@ -36,18 +36,18 @@ module _ (RM : ℕ → Type 0) where
         (λ i other. except_cases (λ j u. RM i → RM j → r i ≡ aborted → u ≡ committed → ⊥) r x n (λ p q e d. c d i p e) (λ j other'. agree i j)),
   )
 
-  tc_step : (r r' : ℕ → ℕ) → TCStep RM r r' → TCTypeOK RM r × TCConsistent RM r → TCTypeOK RM r' × TCConsistent RM r'
-  tc_step r r' (inl (x, q, inl (w, e))) h = rw e (tc_move r x prepared (omega arith) (λ k. omega arith) (λ k. omega arith) h)
-  tc_step r r' (inl (x, q, inr (inl (p, can, e)))) h =
-      rw e (tc_move r x committed (omega arith) (λ k. omega arith) (λ k i m d. none_aborted (can i m) d) h)
-    where
-      none_aborted : {n : ℕ} → (n ≡ prepared) ⊎ (n ≡ committed) → n ≡ aborted → ⊥
-      none_aborted (inl a) b = omega arith
-      none_aborted (inr a) b = omega arith
-  tc_step r r' (inl (x, q, inr (inr (w, none, e)))) h = rw e (tc_move r x aborted (omega arith) (λ k. none) (λ k. omega arith) h)
-  tc_step r r' (inr e) h = rw e h
-
   pub tc_safe : (rm_state : ℕ → ℕ → ℕ) → TCSpec RM rm_state → (t : ℕ) → TCTypeOK RM (rm_state t) × TCConsistent RM (rm_state t)
   tc_safe rm_state (first, steps) zero =
       (λ i q. rw (first i q) (omega arith), λ i j p q e d. let z = first i p in omega arith)
   tc_safe rm_state (first, steps) (suc t) = tc_step (rm_state t) (rm_state (suc t)) (steps t) (tc_safe rm_state (first, steps) t)
+    where
+      tc_step : (r r' : ℕ → ℕ) → TCStep RM r r' → TCTypeOK RM r × TCConsistent RM r → TCTypeOK RM r' × TCConsistent RM r'
+      tc_step r r' (inl (x, q, inl (w, e))) h = rw e (tc_move r x prepared (omega arith) (λ k. omega arith) (λ k. omega arith) h)
+      tc_step r r' (inl (x, q, inr (inl (p, can, e)))) h =
+          rw e (tc_move r x committed (omega arith) (λ k. omega arith) (λ k i m d. none_aborted (can i m) d) h)
+        where
+          none_aborted : {n : ℕ} → (n ≡ prepared) ⊎ (n ≡ committed) → n ≡ aborted → ⊥
+          none_aborted (inl a) b = omega arith
+          none_aborted (inr a) b = omega arith
+      tc_step r r' (inl (x, q, inr (inr (w, none, e)))) h = rw e (tc_move r x aborted (omega arith) (λ k. none) (λ k. omega arith) h)
+      tc_step r r' (inr e) h = rw e h
