@@ -9,7 +9,7 @@ use Rattle.message.specs.declared.Plan.{Plan}
 use Rattle.message.specs.Outcome.{accepted}
 use Rattle.slots.specs.View.{View, view_table}
 use Rattle.slots.specs.View.Bytes.{view_bytes}
-use Rattle.slots.specs.View.Laws.{view_judged}
+use Rattle.slots.proofs.View.Laws.{view_judged}
 use Rattle.change.specs.Change.{Step, applied}
 use Rattle.change.proofs.Stepping.{step_performed}
 use Rattle.acceptor.specs.Acceptor.Sound.{sound}

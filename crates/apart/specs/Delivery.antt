@@ -2,7 +2,6 @@
 --     NoPlace          13, of the message that the bytes are
 --     deliver_rows     1, 2 and 5 of N, this, and 15 to 18 of the reader
 -- The theorems are in Theorems.antt, their proofs in Delivery/Ruled.antt. Assumes nothing.
-pub mod Ruled
 use Rattle.std.specs.Prelude.{ℕ, false, List, ◌≡◌, length}
 use Rattle.message.specs.declared.Plan.{Plan}
 use Rattle.message.specs.declared.Message.{Message}

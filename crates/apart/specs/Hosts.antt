@@ -11,15 +11,6 @@
 --     system_after, answers, AllGenuine    what a list of happenings leaves and answers, and what is asked of it
 --     Safe, AfterEach             the three claims of demand 3; a claim about each happening of a list
 -- The theorems are in Theorems.antt, Words.antt and Behaviour.antt; why they hold stands in Hosts/. Assumes nothing.
-pub mod Tied
-pub mod Restart
-pub mod Rm
-pub mod Acceptor
-pub mod Leader
-pub mod Steps
-pub mod Lists
-pub mod Tests
-pub mod Moved
 use Rattle.std.specs.Prelude.{ℕ, ◌%◌, true, ◌⊎◌, ◌≡◌, length, replicate}
 use mathlib.Core.List.{List, [], ◌∷◌, ◌++◌, Memᴰ}
 use Rattle.message.specs.declared.Plan.{Plan}

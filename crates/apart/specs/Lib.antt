@@ -8,8 +8,3 @@
 --     Needed       each hypothesis is needed: lists that break the order without it
 pub mod Delivery
 pub mod Hosts
-pub mod Theorems
-pub mod Words
-pub mod Behaviour
-pub mod Examples
-pub mod Needed

@@ -20,8 +20,8 @@ use Rattle.judging.specs.Judging.Four.{judged_four}
 use Rattle.leader.specs.Leader.{is_summary}
 use Rattle.record.specs.Record.{Tables, record_judged, lent_judged}
 use Rattle.batch.specs.Run.{run_of, is_list, run_judged, finished_run, record_run}
-use Rattle.batch.specs.Run.Laws.{answer_judged, judged_list, list_judged}
-use Rattle.batch.specs.Theorems.{run_numbers}
+use Rattle.batch.proofs.RunLaws.{answer_judged, judged_list, list_judged}
+use Rattle.batch.proofs.Theorems.{run_numbers}
 
 stopped_is : (number : ℕ) (o : Outcome (Unit {0})) → number ≡ number_of o → (number ≡ 0 → ⊥) → o ≡ refused number
 stopped_is number (accepted u) e some = absurd (some e)

@@ -1,5 +1,8 @@
 -- Running a list.
 --     Judging      what is judged before its first event
 --     Running      after some of its events
+pub mod RunLaws
+pub mod RunNumbers
+pub mod Theorems
 pub mod Judging
 pub mod Running

@@ -18,9 +18,9 @@ use Rattle.message.specs.Outcome.{accepted, number_of}
 use Rattle.record.specs.Record.{Tables, RecordStep, lent_judged, record_step}
 use Rattle.record.specs.Record.Applied.{record_applied}
 use Rattle.record.proofs.Stepping.{step_applied}
-use Rattle.conformance.specs.Theorems.{record_sound}
+use Rattle.conformance.proofs.Theorems.{record_sound}
 use Rattle.batch.specs.Run.{events_of, single_calls, tables_left, numbers_of, Run, is_list, finished_run}
-use Rattle.batch.specs.Run.Laws.{is_list_lem, events_at}
+use Rattle.batch.proofs.RunLaws.{is_list_lem, events_at}
 
 -- a list call that was accepted
 abbrev run_as : Tables → List ℕ → Run

@@ -4,4 +4,3 @@
 --     Theorems     what follows
 pub mod Run
 pub mod Rows
-pub mod Theorems

@@ -4,7 +4,6 @@
 --     Action         the published action of an event, of each kind
 --     Copies         what a receipt does
 -- The actions are module PaxosCommit's at the plan's constants (crate matching). Assumes nothing.
-pub mod Laws
 use Rattle.std.specs.Prelude.{ℕ, true, List, ◌⊎◌, ◌≡◌}
 use Rattle.message.specs.declared.Plan.{Plan}
 use Rattle.message.specs.declared.Message as Wire

@@ -6,6 +6,3 @@
 --     Theorems     the theorems
 pub mod Record
 pub mod Action
-pub mod Words
-pub mod Effects
-pub mod Theorems

@@ -10,16 +10,6 @@
 --     heard          the tables after a receipt
 --     Acted          what an accepted event call does: a case for each published action, and for the receipt
 -- The actions at a plan's constants, and each role's part of a row, are those of the crate matching. Assumes nothing.
-pub mod Ruled
-pub mod Opened
-pub mod Steps
-pub mod Judges
-pub mod Acts
-pub mod Slots
-pub mod Inboxes
-pub mod Roles
-pub mod Words
-pub mod Determined
 use Rattle.std.specs.Prelude.{ℕ, zero, suc, ◌+◌, ◌*◌, ◌%◌, ◌≤◌, ◌<◌, true, false, List, [], ◌++◌, ◌⊎◌, ◌≡◌, length, set}
 use Rattle.message.specs.declared.Plan.{Plan}
 use Rattle.message.specs.declared.Message as Wire

@@ -3,7 +3,6 @@
 --     one_to14, to14_and20   the numbers of a call that judges tables and an event; and of one that is lent a summary
 --     KeepsOwn, KeepsLeader    that, of a role's own call, and a refusal leaves what it was lent
 -- Its laws are in Answer/Laws.antt. Assumes nothing.
-pub mod Laws
 use Rattle.std.specs.Prelude.{ℕ, ◌⊎◌, ◌≡◌}
 use mathlib.Core.List.{List, [], ◌∷◌, Memᴰ}
 use Rattle.message.specs.Outcome.{Outcome, accepted, refused}

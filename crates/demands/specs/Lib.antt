@@ -4,6 +4,3 @@
 --     Orders       Paper 1: the rows that keep another order's messages out
 --     Theorems     the page: demands 1, 2 and 3, the byte form, and that orders stay apart, stated in full
 pub mod Answer
-pub mod Words
-pub mod Orders
-pub mod Theorems

@@ -2,7 +2,6 @@
 --     are_all      every byte of W is the state
 --     ending_of    committed, aborted, or open
 -- Its laws are in Ending/Laws.antt. Assumes nothing.
-pub mod Laws
 use Rattle.std.specs.Prelude.{ℕ, Bool, cond, List, eqb}
 use Rattle.slots.specs.All.{all}
 use Rattle.tcommit.specs.RmState.{committed, aborted}

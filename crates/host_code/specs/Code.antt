@@ -4,7 +4,6 @@
 --     HostStep, host_step, host_step_of  a role's step with that number for its answer
 --     packed, are_bytes                 several bytes as one number; whether numbers are bytes
 -- Their laws are in Code/Laws.antt. Assumes nothing.
-pub mod Laws
 use Rattle.std.specs.Prelude.{ℕ, ◌+◌, ◌*◌, Bool, cond, List, [], ◌∷◌, ltb}
 use Rattle.message.specs.declared.Plan.{Plan}
 use Rattle.message.specs.Outcome.{Outcome, accepted, refused}

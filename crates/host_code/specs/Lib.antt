@@ -2,4 +2,3 @@
 --     Code       the number of a step's answer, and of several bytes
 --     Theorems   no number stands for two answers
 pub mod Code
-pub mod Theorems

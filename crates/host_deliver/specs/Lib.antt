@@ -2,4 +2,3 @@
 --     Code       the number of its answer, and N
 --     Theorems   what the number says
 pub mod Code
-pub mod Theorems

@@ -4,7 +4,7 @@ use Rattle.std.specs.Prelude.{ℕ, ◌+◌, ◌<◌, List, ◌≡◌, refl}
 use Rattle.std.proofs.Common.{ap}
 use Rattle.message.specs.Outcome.{accepted, refused}
 use Rattle.change.specs.declared.Sent.TheVariants.{Slot, Quiet}
-use Rattle.host_code.specs.Theorems.{code_means}
+use Rattle.host_code.proofs.Theorems.{code_means}
 use Rattle.host_leader.specs.Code.{host_leader, host_leader_of}
 
 module _ (I S N : List ℕ) where

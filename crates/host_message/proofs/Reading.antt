@@ -11,9 +11,9 @@ use Rattle.message.specs.declared.Plan.{Plan}
 use Rattle.message.specs.declared.Message.{Message}
 use Rattle.message.specs.declared.Message.TheVariants.{Decision}
 use Rattle.message.specs.Outcome.{number_of}
-use Rattle.message.specs.Outcome.Laws.{refused_number}
+use Rattle.message.proofs.Outcome.Laws.{refused_number}
 use Rattle.message.specs.Form.{map_length, fields_message, decode}
-use Rattle.message.specs.Form.Maps.{Other, fields_other, decode_fields}
+use Rattle.message.proofs.Form.Maps.{Other, fields_other, decode_fields}
 use Rattle.message.specs.Codec.{read_message}
 use Rattle.host_code.specs.Code.{packed}
 use Rattle.host_message.specs.Code.{fields_of, read_code}

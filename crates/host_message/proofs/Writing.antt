@@ -9,7 +9,7 @@ use Rattle.message.specs.declared.Written.{Written}
 use Rattle.slots.proofs.Eight.{eight}
 use Rattle.host_code.specs.Code.{packed}
 use Rattle.host_message.specs.Code.{written_code}
-use Rattle.host_message.specs.Code.Laws.{written_bytes}
+use Rattle.host_message.proofs.CodeLaws.{written_bytes}
 
 pub eight_packed : (w : Written) → length w.bytes ≡ 8 → w.number ≡ 0
     → packed (get_or w.bytes 0 0 ∷ get_or w.bytes 1 0 ∷ get_or w.bytes 2 0 ∷ get_or w.bytes 3 0 ∷ get_or w.bytes 4 0 ∷ get_or w.bytes 5 0

@@ -3,8 +3,6 @@
 --     read_code                    the reader's answer: byte 0 the refusal or 0, bytes 1 to 6 the map and the fields
 --     host_write, written_code    the writer by map and fields; its answer: the eight bytes, or byte 1 the refusal
 -- Their laws are in Code/Laws.antt, those of the writer's number in Code/Writing.antt. Assumes nothing.
-pub mod Laws
-pub mod Writing
 use Rattle.std.specs.Prelude.{ℕ, ◌*◌, not, cond, List, [], ◌∷◌, eqb}
 use Rattle.message.specs.declared.Plan.{Plan}
 use Rattle.message.specs.declared.Vote.{Vote}

@@ -2,4 +2,3 @@
 --     Code       what they are given and answer, as numbers
 --     Theorems   when a number is a message's, and that none stands for two messages or for two answers of the writer
 pub mod Code
-pub mod Theorems

@@ -2,4 +2,3 @@
 --     Code       what they answer, as numbers, and the five tables
 --     Theorems   what the numbers stand for
 pub mod Code
-pub mod Theorems

@@ -19,7 +19,7 @@ use Rattle.message.specs.declared.Message.{Message}
 use Rattle.message.specs.Form.{map2a}
 use Rattle.slots.specs.Table.{slot_size}
 use Rattle.slots.specs.Table.Words.{Word, WordFrom}
-use Rattle.slots.specs.Table.Words.Laws.{below_next}
+use Rattle.slots.proofs.Table.Words.Laws.{below_next}
 use Rattle.slots.specs.Table.Scan.{edge}
 use Rattle.slots.proofs.Zeros.{or_none}
 use Rattle.inbox.specs.declared.Gathered.{Gathered}

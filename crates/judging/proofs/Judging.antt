@@ -9,7 +9,7 @@ use mathlib.Core.Path.{◌≡◌, sym, ◌∙◌, ap}
 use borrow.Author.Tests.{not-false}
 use Rattle.message.specs.declared.Plan.{Plan}
 use Rattle.message.specs.Outcome.{Outcome, accepted, refused, refuse_if}
-use Rattle.message.specs.Outcome.Laws.{accepted_not_refused, refuse_if_accepted}
+use Rattle.message.proofs.Outcome.Laws.{accepted_not_refused, refuse_if_accepted}
 use Rattle.message.specs.Plan.{is_plan}
 use Rattle.message.proofs.Guards.{pass}
 use Rattle.change.specs.declared.Judged.{Judged}

@@ -21,7 +21,7 @@ use Rattle.message.specs.Plan.{is_plan}
 use Rattle.slots.specs.Table.{messages}
 use Rattle.slots.specs.View.{View, view_table}
 use Rattle.slots.specs.View.Bytes.{view_bytes}
-use Rattle.slots.specs.View.Laws.{view_judged}
+use Rattle.slots.proofs.View.Laws.{view_judged}
 use Rattle.change.specs.declared.Sent.{Sent}
 use Rattle.change.specs.declared.Answer.{Answer}
 use Rattle.change.specs.declared.Answer.TheVariants as Answers

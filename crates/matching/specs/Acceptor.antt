@@ -6,9 +6,6 @@
 --     Disabled, Full                   rows 12 and 13
 --     acceptor_table_rows, acceptor_rows  the rows of "Refusals by place" for the call: those of its plan and tables, and all
 -- Assumes nothing.
-pub mod Votes
-pub mod Ruled
-pub mod Laws
 use Rattle.std.specs.Prelude.{ℕ, ◌+◌, ◌*◌, Bool, true, false, List, ◌⊎◌, ◌≡◌, length, get_or}
 use Rattle.message.specs.declared.Plan.{Plan}
 use Rattle.message.specs.declared.Message as Wire

@@ -8,7 +8,6 @@
 --                            table that holds the message at the end
 --     Sends                  that, and the answer: the first slot where the message stands
 -- Its laws are in Call/Laws.antt. Assumes nothing.
-pub mod Laws
 use Rattle.std.specs.Prelude.{ℕ, ◌/◌, ◌≤◌, ◌<◌, true, ◌⊎◌, ◌≡◌, length}
 use mathlib.Core.List.{List, [], ◌∷◌, ◌++◌, Memᴰ}
 use Rattle.message.specs.declared.Plan.{Plan}

@@ -10,14 +10,6 @@
 --     leader_rows_by, leader_rows      all of them: without a summary, by what counts as decided; with it, and Decided read from it
 -- Assumes nothing.
 pub mod Decided
-pub mod Conditions
-pub mod Declined
-pub mod Highest
-pub mod Guards
-pub mod Ruled
-pub mod Took
-pub mod Laws
-pub mod Own
 use Rattle.std.specs.Prelude.{ℕ, ◌<◌, Bool, true, false, ◌⊎◌, ◌≡◌, eqb, length, get_or}
 use mathlib.Core.List.{List, Memᴰ}
 use Rattle.message.specs.declared.Plan.{Plan}

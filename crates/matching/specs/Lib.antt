@@ -8,4 +8,3 @@ pub mod Call
 pub mod Rm
 pub mod Acceptor
 pub mod Leader
-pub mod Theorems

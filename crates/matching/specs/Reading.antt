@@ -4,7 +4,6 @@
 --     set_of                              a list of messages as a set
 --     rm_state_of, a_state_of             W and Q as functions
 -- Its laws are in Reading/Laws.antt. Assumes nothing.
-pub mod Laws
 use Rattle.std.specs.Prelude.{ℕ, ◌+◌, ◌<◌, Bool, true, ◌&&◌, cond, ◌≡◌, ltb, eqb, get_or}
 use mathlib.Core.List.{List, Memᴰ}
 use Rattle.message.specs.declared.Plan.{Plan}

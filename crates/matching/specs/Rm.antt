@@ -4,8 +4,6 @@
 --     is_decision, Contradicts, Disabled, Full    the messages that a resource manager takes; rows 11, 12 and 13
 --     rm_table_rows, rm_rows   the rows of "Refusals by place" for the call: those of its plan and tables, and all
 -- Assumes nothing.
-pub mod Ruled
-pub mod Laws
 use Rattle.std.specs.Prelude.{ℕ, ◌<◌, Bool, true, false, List, ◌⊎◌, ◌≡◌, length}
 use Rattle.message.specs.declared.Plan.{Plan}
 use Rattle.message.specs.declared.Message as Wire

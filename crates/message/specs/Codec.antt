@@ -3,7 +3,6 @@
 --     write_message                the writer's answer: the number, eight bytes and a length, all zero if it refuses
 -- Their laws are in Codec/Laws.antt. Assumes nothing.
 pub mod Laws
-pub mod Answers
 use Rattle.std.specs.Prelude.{ℕ, not, List, eqb, length, get_or, replicate}
 use Rattle.message.specs.declared.Plan.{Plan}
 use Rattle.message.specs.declared.Message.{Message}

@@ -8,8 +8,6 @@
 --     fields_message, decode        the message that a known map and the bytes after it make
 --     has_order                     the plan's order number stands where a message of this length has it
 -- Their laws are in Form/Laws.antt and, map by map, in Form/Maps.antt. Assumes nothing.
-pub mod Laws
-pub mod Maps
 use Rattle.std.specs.Prelude.{ℕ, ◌+◌, ◌-◌, ◌/◌, ◌%◌, Bool, true, ◌&&◌, ◌||◌, cond, List, [], ◌∷◌, ◌++◌, ltb, leb, eqb, length, get_or, replicate}
 use Rattle.std.specs.Int.Count.{ones}
 use Rattle.message.specs.declared.Plan.{Plan}

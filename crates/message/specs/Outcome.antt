@@ -4,7 +4,6 @@
 --     and_then     an accepted value goes on to the rows below, a refusal stays
 --     refuse_if   a row of "Refusals by place": the number if the row applies, else what the rows below it say
 -- Its laws are in Outcome/Laws.antt. Assumes nothing.
-pub mod Laws
 use Rattle.std.specs.Prelude.{ℕ, Bool, true, false}
 
 pub data Outcome (A : Type 0) : Type 0 where

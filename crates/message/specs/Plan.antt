@@ -2,7 +2,6 @@
 --     is_count                           a count from 1 to a limit
 --     is_plan                            whether a plan is in range; where it is not, every call refuses 1
 -- Its laws are in Plan/Laws.antt. Assumes nothing.
-pub mod Laws
 use Rattle.std.specs.Prelude.{ℕ, Bool, ◌&&◌, leb}
 use Rattle.message.specs.declared.Plan.{Plan}
 

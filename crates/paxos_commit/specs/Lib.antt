@@ -5,5 +5,3 @@
 --     Words         what the predicates in the theorems say, in numbers
 pub mod PaxosCommit
 pub mod Widened
-pub mod Theorems
-pub mod Words

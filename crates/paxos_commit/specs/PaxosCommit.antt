@@ -11,7 +11,6 @@
 --     Phase1a, Phase2a, Decide, Phase1b, Phase2b, PCNext, PCStep, PCSpec
 --     Enabled                          an action that some next state satisfies
 -- Assumes nothing.
-pub mod Laws
 pub mod Safety
 use Rattle.std.specs.Prelude.{ℕ, suc, ◌≤◌, ◌<◌, Bool, true, ◌&&◌, cond, ◌⊎◌, ◌↔◌, ◌≡◌, eqb}
 use Rattle.tcommit.specs.RmState.{working, committed}

@@ -7,8 +7,6 @@
 --     WidenedDecide         Decide by that
 --     WidenedNext, WidenedStep, WidenedSpec     PCNext, PCStep and PCSpec with it
 -- Assumes nothing.
-pub mod Laws
-pub mod Early
 use Rattle.std.specs.Prelude.{ℕ, suc, Bool, ◌⊎◌, ◌≡◌}
 use Rattle.paxos_commit.specs.PaxosCommit.{Val, aborted, Message, phase2a, State}
 use Rattle.paxos_commit.specs.PaxosCommit.{PCInit, UnchangedMsgs, Decided, DecideCommitWhere, DecideAbortWhere, PCNext}

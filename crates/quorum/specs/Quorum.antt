@@ -4,8 +4,6 @@
 --     is_quorum          whether those of so many acceptors that pass a test are a majority
 --     Distinct, AmongFirst     a list of different acceptors of a set, by which a majority is said without counting
 -- Its laws are in Quorum/Laws.antt; Quorum/Sets.antt says what a quorum is in document 01's words. Assumes nothing.
-pub mod Laws
-pub mod Sets
 use Rattle.std.specs.Prelude.{ℕ, zero, suc, ◌+◌, ◌*◌, ◌<◌, Bool, true, cond, ◌≡◌, ltb}
 use mathlib.Core.List.{List, [], ◌∷◌, Memᴰ}
 

@@ -17,14 +17,14 @@ use lib.ListN.{length, set}
 use borrow.Author.Tests.{le-leb, lt-leb, eq-eqb, ne_eqb, lt-ltb, le-ltb, not-false}
 use Rattle.message.specs.declared.Plan.{Plan}
 use Rattle.message.specs.Outcome.{Outcome, accepted, refused, and_then, refuse_if, number_of}
-use Rattle.message.specs.Outcome.Laws.{accepted_not_refused, refuse_if_accepted}
+use Rattle.message.proofs.Outcome.Laws.{accepted_not_refused, refuse_if_accepted}
 use Rattle.message.specs.Plan.{is_plan}
-use Rattle.message.specs.Plan.Laws.{plan_bounds}
+use Rattle.message.proofs.PlanLaws.{plan_bounds}
 use Rattle.slots.specs.Table.{messages}
 use Rattle.slots.specs.declared.Store.{Store}
 use Rattle.slots.specs.View.{View, view_table, store_bytes}
 use Rattle.slots.specs.View.Bytes.{view_bytes}
-use Rattle.slots.specs.View.Laws.{view_judged}
+use Rattle.slots.proofs.View.Laws.{view_judged}
 use Rattle.event.specs.Event.{kind_of, who_of, slot_number, is_event}
 use Rattle.change.specs.declared.Sent.{Sent}
 use Rattle.change.specs.declared.Answer.{Answer}

@@ -13,7 +13,7 @@ use Rattle.message.specs.declared.Plan.{Plan}
 use Rattle.message.specs.Outcome.{accepted, refused}
 use Rattle.message.specs.Plan.{is_plan}
 use Rattle.rehearsal_input.specs.Input.{plan_size, plan_in, events_in, event_at}
-use Rattle.rehearsal_input.specs.Input.Laws.{plan_in_bad, plan_in_good, take_least, drop_least}
+use Rattle.rehearsal_input.proofs.Input.Laws.{plan_in_bad, plan_in_good, take_least, drop_least}
 
 abbrev pub with_order : List ℕ → ℕ → Plan
 with_order input order = record { rms = get_or input 0 0; acceptors = get_or input 1 0; leaders = get_or input 2 0; order = order }

@@ -4,7 +4,6 @@
 --     events_in                       the bytes of the events after it
 --     event_count, event_at           how many events they are, and the k-th, from 0 on
 -- Their laws are in Input/Laws.antt. Assumes nothing.
-pub mod Laws
 use Rattle.std.specs.Prelude.{ℕ, ◌+◌, ◌*◌, ◌/◌, not, List, ltb, length, get_or, take, drop}
 use Rattle.message.specs.declared.Plan.{Plan}
 use Rattle.message.specs.Outcome.{Outcome, accepted, refused, refuse_if}

@@ -2,4 +2,3 @@
 --     Input        the plan and the events in an input
 --     Theorems     the same in literal numbers and in document 01's words
 pub mod Input
-pub mod Theorems

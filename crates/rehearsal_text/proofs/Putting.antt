@@ -12,7 +12,7 @@ use lib.ListN.{length, get_or, drop, set, drop_of_length-le}
 use lib.Seq.{drop-cons}
 use borrow.Author.Tests.{lt-ltb, le-ltb}
 use Rattle.rehearsal_text.specs.Text.{digit, line, Put, put_of, put}
-use Rattle.rehearsal_text.specs.Text.Laws.{put_none, put_room, put_full}
+use Rattle.rehearsal_text.proofs.Text.Laws.{put_none, put_room, put_full}
 
 module _ (words output : List ℕ) (end i : ℕ) (whole : Put) (inv : put end (drop i words) output ≡ whole) where
   pub words_step : i < length words → end < length output → put (end + 1) (drop (i + 1) words) (set output end (get_or words i 0)) ≡ whole

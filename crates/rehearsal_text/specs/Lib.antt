@@ -2,4 +2,3 @@
 --     Text         lines and words, and text put into a buffer
 --     Theorems     the same in literal numbers and in document 01's words
 pub mod Text
-pub mod Theorems

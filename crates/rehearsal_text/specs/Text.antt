@@ -5,7 +5,6 @@
 --     Put, put_of       a buffer, and where what was put into it ends
 --     put              a text put at a place of a buffer
 -- Their laws are in Text/Laws.antt. Assumes nothing.
-pub mod Laws
 use Prim.Native.Char.{code}
 use Rattle.std.specs.Prelude.{ℕ, suc, ◌+◌, ◌/◌, ◌%◌, cond, List, [], ◌∷◌, ltb, length, set}
 use Prim.Native.String.{String, [] as []ˢ, ◌∷◌ as ◌∷ˢ◌}

@@ -17,17 +17,17 @@ use borrow.Author.Tests.{lt-ltb, le-ltb}
 use Rattle.message.specs.declared.Plan.{Plan}
 use Rattle.message.specs.Outcome.{accepted}
 use Rattle.message.specs.Plan.{is_plan}
-use Rattle.message.specs.Plan.Laws.{plan_bounds}
+use Rattle.message.proofs.PlanLaws.{plan_bounds}
 use Rattle.slots.specs.Table.{is_table_length}
 use Rattle.record.specs.Record.{Tables, tables_of, Opening, record_open, lent_judged}
 use Rattle.safety.specs.Lists.{Call}
 use Rattle.rehearsal_input.specs.declared.PlanRead.{PlanRead}
 use Rattle.rehearsal_input.specs.declared.PlanRead.TheVariants.{Given, Refused}
 use Rattle.rehearsal_input.specs.Input.{plan_in, plan_outcome, events_in}
-use Rattle.rehearsal_input.specs.Input.Laws.{plan_in_is}
-use Rattle.rehearsal_input.specs.Theorems.{events_count}
+use Rattle.rehearsal_input.proofs.Input.Laws.{plan_in_is}
+use Rattle.rehearsal_input.proofs.Theorems.{events_count}
 use Rattle.rehearsal_text.specs.Text.{line, Put, put_of, put}
-use Rattle.rehearsal_text.specs.Text.Laws.{put_within}
+use Rattle.rehearsal_text.proofs.Text.Laws.{put_within}
 use Rattle.rehearsing.specs.Rehearsal.{calls_in, fresh_tables, text_of, printed_for, rehearsed, rehearsal}
 use Rattle.rehearsing.specs.Rehearsal.Laws.{opens, fresh_judged, rehearsed_length}
 

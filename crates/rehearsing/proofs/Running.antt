@@ -17,9 +17,9 @@ use Rattle.ending.specs.declared.Ending as EndingType
 use Rattle.ending.specs.Ending.{ending_of}
 use Rattle.record.specs.Record.{Tables, RecordStep, lent_judged}
 use Rattle.batch.specs.Run.{events_of, single_calls, tables_left, numbers_of, Run, finished_run, record_run}
-use Rattle.batch.specs.Run.Laws.{run_whole}
+use Rattle.batch.proofs.RunLaws.{run_whole}
 use Rattle.rehearsal_text.specs.Text.{line, word_of, Put, put_of, put}
-use Rattle.rehearsal_text.specs.Text.Laws.{put_none, put_then}
+use Rattle.rehearsal_text.proofs.Text.Laws.{put_none, put_then}
 use Rattle.rehearsing.specs.Rehearsal.{calls_in, text_of, number_lines, cut_line}
 use Rattle.rehearsing.specs.Rehearsal.Laws.{events_whole, text_whole}
 

@@ -18,10 +18,10 @@ use Rattle.slots.specs.Table.{is_table_length}
 use Rattle.ending.specs.Ending.{ending_of}
 use Rattle.record.specs.Record.{Tables, zeroed, record_open}
 use Rattle.safety.specs.Lists.{Fresh, Call, answers, tables_after}
-use Rattle.safety.specs.Theorems.{never_11}
+use Rattle.safety.proofs.Theorems.{never_11}
 use Rattle.rehearsal_input.specs.Input.{plan_of, events_in}
-use Rattle.rehearsal_input.specs.Input.Laws.{plan_in_short, plan_in_bad, plan_in_good, plan_in_more}
-use Rattle.rehearsal_input.specs.Theorems.{rest_ignored as events-rest}
+use Rattle.rehearsal_input.proofs.Input.Laws.{plan_in_short, plan_in_bad, plan_in_good, plan_in_more}
+use Rattle.rehearsal_input.proofs.Theorems.{rest_ignored as events-rest}
 use Rattle.rehearsal_text.specs.Text.{ascii, line, word_of}
 use Rattle.rehearsing.specs.Rehearsal.{calls_in, fresh_tables, lines_of, text_of, printed_for, rehearsed}
 use Rattle.rehearsing.specs.Rehearsal.Laws.{calls_take, opens}

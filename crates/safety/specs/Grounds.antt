@@ -8,16 +8,6 @@
 -- PaxosCommit, Decide widened; Moves.antt, what becomes of W; Contradicted.antt, no decision contradicts; Steps.antt, one event call. Laws that these
 -- use: Zeros.antt, Stored.antt.
 -- Assumes nothing.
-pub mod Zeros
-pub mod Stored
-pub mod Marks
-pub mod Opened
-pub mod Inboxes
-pub mod Kept
-pub mod Published
-pub mod Moves
-pub mod Contradicted
-pub mod Steps
 use Rattle.std.specs.Prelude.{ℕ, ◌*◌, ◌<◌, true, ◌≡◌}
 use Rattle.message.specs.declared.Plan.{Plan}
 use Rattle.slots.specs.Table.{messages}

@@ -7,9 +7,5 @@
 --     Standing     what the summary says, and that all answers are those without one
 --     Behaviour    every list of calls is a behaviour of module PaxosCommit, Decide widened
 pub mod Grounds
-pub mod Words
 pub mod Lists
-pub mod Theorems
 pub mod Plain
-pub mod Standing
-pub mod Behaviour

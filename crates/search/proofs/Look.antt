@@ -14,13 +14,13 @@ use lib.ListN.{length, get_or, drop}
 use Rattle.message.specs.declared.Plan.{Plan}
 use Rattle.message.specs.declared.Message.{Message}
 use Rattle.message.specs.Form.{slot_of}
-use Rattle.message.specs.Form.Laws.{length_slot_of}
+use Rattle.message.proofs.Form.Laws.{length_slot_of}
 use Rattle.slots.specs.declared.Place.{Place}
 use Rattle.slots.specs.declared.Place.TheVariants.{At, Free, Full}
 use Rattle.slots.specs.Table.{slot_size, slots, same_bytes}
 use Rattle.slots.specs.Table.Scan.{near_edge, edge, slots_held, locate_from, locate}
-use Rattle.slots.specs.Table.Scan.Laws.{same_bytes_refl, same_bytes_false, locate_from_at, locate_from_next, locate_from_free, locate_from_full}
-use Rattle.slots.specs.Table.Edge.{near_below, edge_within, edge_at, edge_on, length_slots_held, held_at}
+use Rattle.slots.proofs.Table.Scan.Laws.{same_bytes_refl, same_bytes_false, locate_from_at, locate_from_next, locate_from_free, locate_from_full}
+use Rattle.slots.proofs.Table.Edge.{near_below, edge_within, edge_at, edge_on, length_slots_held, held_at}
 use Rattle.slots.proofs.Eight.{eight, slot_eight}
 use Rattle.search.specs.Words.{EightFrom}
 use Rattle.search.specs.Words.Laws.{same_bytes_lem, same_number, eight_of}

@@ -10,7 +10,7 @@ use lib.ListN.{length, get_or, take, set}
 use native.Mathlib.Nat.{add-sub_cancel_left}
 use borrow.Rule.Slice.PartMut.{put_mid}
 use Rattle.slots.specs.Table.{slot_size, store_at}
-use Rattle.slots.specs.Table.Scan.Laws.{store_at_in}
+use Rattle.slots.proofs.Table.Scan.Laws.{store_at_in}
 use lib.Seq.{take-suc, take-suc-set, take_all, drop-drop}
 
 module _ (slot form : List ℕ) (i : ℕ) where

@@ -10,7 +10,7 @@ use native.Mathlib.Omega.{arith}
 use lib.ListN.{length, get_or, take, drop}
 use lib.Seq.{drop-cons, take_all}
 use Rattle.slots.specs.Table.{slot_size, slots}
-use Rattle.slots.specs.Table.Laws.{get_d_slots}
+use Rattle.slots.proofs.Table.Laws.{get_d_slots}
 
 -- the n bytes from k + j on
 bytes_from : ℕ → ℕ → ℕ → List ℕ → List ℕ

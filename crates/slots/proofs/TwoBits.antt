@@ -12,7 +12,7 @@ use lib.Dec.{leb}
 use lib.ListN.{length, get_or, drop}
 use borrow.Author.Tests.{le-leb, lt-leb, leb-true, leb-false}
 use Rattle.slots.specs.All.{all}
-use Rattle.slots.specs.All.Laws.{all_step, all_stop, all_end}
+use Rattle.slots.proofs.All.Laws.{all_step, all_stop, all_end}
 
 abbrev are_two_bits : List ℕ → Bool
 are_two_bits = all (λ b. leb b 3)

@@ -1,7 +1,6 @@
 -- Whether every byte of a list passes a test.
 --     all     its laws are in All/Laws.antt
 -- Assumes nothing.
-pub mod Laws
 use Rattle.std.specs.Prelude.{ℕ, Bool, true, ◌&&◌, List, [], ◌∷◌}
 
 -- every byte passes the test

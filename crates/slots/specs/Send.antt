@@ -3,7 +3,6 @@
 --     place_in         the place where an equal message stands, else the first unused one, else none
 --     message_at      the message in the slot at a place, or 8
 -- How the code looks at bytes is Table/Scan.antt; Send/Laws.antt says that the two agree. Assumes nothing.
-pub mod Laws
 use Rattle.std.specs.Prelude.{ℕ, zero, suc, Bool, cond, List, [], ◌∷◌, ltb}
 use Rattle.message.specs.declared.Plan.{Plan}
 use Rattle.message.specs.declared.Message.{Message}

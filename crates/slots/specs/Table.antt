@@ -10,11 +10,7 @@
 -- Table/Scan.antt is how the code looks at bytes, Table/Edge.antt where used slots end, Table/Words.antt at many bytes together.
 -- Assumes nothing.
 pub mod Scan
-pub mod Edge
 pub mod Words
-pub mod Laws
-pub mod Holds
-pub mod Foreign
 use Rattle.std.specs.Prelude.{ℕ, zero, suc, ◌+◌, ◌*◌, ◌-◌, ◌/◌, ◌%◌, Bool, true, false, ◌&&◌, cond, List, [], ◌∷◌, ◌++◌, map, ltb, leb, eqb, length, get_or, take, drop, replicate}
 use Rattle.message.specs.declared.Plan.{Plan}
 use Rattle.message.specs.declared.Message.{Message}

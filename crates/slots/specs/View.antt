@@ -8,7 +8,6 @@
 --     store_bytes, store_messages   the table after a store, and the messages
 -- View/Laws.antt says that on a judged table the two views and the two stores agree. Assumes nothing.
 pub mod Bytes
-pub mod Laws
 use Rattle.std.specs.Prelude.{ℕ, ◌/◌, List, [], ◌∷◌, ◌++◌, length}
 use Rattle.message.specs.declared.Plan.{Plan}
 use Rattle.message.specs.declared.Message.{Message}

@@ -16,7 +16,7 @@ use lib.Bits.{bit_and, bit_or, and_mod, or_mod, or_shr}
 use lib.Dec.{eqb}
 use lib.ListN.{length, get_or, get_or-eq_default}
 use Rattle.quorum.specs.Mask.{has_bit}
-use Rattle.quorum.specs.Mask.Laws.{has_bit_zero}
+use Rattle.quorum.proofs.Mask.Laws.{has_bit_zero}
 use Rattle.inbox.specs.Inbox.{for_all, for_some}
 use Rattle.inbox.specs.Inbox.Quantifiers.{for_all_all}
 use Rattle.summary.specs.Summary.{stands}

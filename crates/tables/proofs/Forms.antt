@@ -16,21 +16,21 @@ use Rattle.message.specs.declared.Plan.{Plan}
 use Rattle.message.specs.declared.Message.{Message}
 use Rattle.message.specs.Outcome.{accepted, refuse_if}
 use Rattle.message.specs.Plan.{is_plan}
-use Rattle.message.specs.Plan.Laws.{plan_bounds}
+use Rattle.message.proofs.PlanLaws.{plan_bounds}
 use Rattle.message.specs.Form.{map1a, map1b, map1b_vote, map2a, map2b, map_decision, map_length, decode, is_in_range, has_order}
-use Rattle.message.specs.Form.Laws.{known_map, map_length_zero, has_order_bytes}
-use Rattle.message.specs.Form.Maps.{length_1a, length_1b, length_1b_vote, length_2a, length_2b, length_decision}
-use Rattle.message.specs.Form.Maps.{decoded_1a, decoded_1b, decoded_1b_vote, decoded_2a, decoded_2b, decoded_decision}
-use Rattle.message.specs.Codec.Laws.{read_message_plan}
+use Rattle.message.proofs.Form.Laws.{known_map, map_length_zero, has_order_bytes}
+use Rattle.message.proofs.Form.Maps.{length_1a, length_1b, length_1b_vote, length_2a, length_2b, length_decision}
+use Rattle.message.proofs.Form.Maps.{decoded_1a, decoded_1b, decoded_1b_vote, decoded_2a, decoded_2b, decoded_decision}
+use Rattle.message.proofs.Codec.Laws.{read_message_plan}
 use Rattle.slots.specs.Table.{Unused, Bad, slot_size, slots, is_zero, used_slot, read_slot, read_table, is_table}
 use Rattle.slots.specs.All.{all}
-use Rattle.slots.specs.Table.Laws.{leading_used, read_slot_unused, is_table_first}
+use Rattle.slots.proofs.Table.Laws.{leading_used, read_slot_unused, is_table_first}
 use Rattle.slots.proofs.Eight.{slot_eight}
 use Rattle.tables.specs.Tables.Bounds.{is_within, is_within_at, put_row, put_bounds, bounds_of, Bounded, are_within, is_form}
 use Rattle.tables.specs.Tables.Each.{each, each_suc}
 use Rattle.tables.specs.Tables.Edge.{is_used, used_at, unknown_unused}
-use Rattle.message.specs.Form.Maps.{slot_1a, slot_1b, slot_1b_vote, slot_2a, slot_2b, slot_decision}
-use Rattle.message.specs.Codec.Laws.{read_message_whole}
+use Rattle.message.proofs.Form.Maps.{slot_1a, slot_1b, slot_1b_vote, slot_2a, slot_2b, slot_decision}
+use Rattle.message.proofs.Codec.Laws.{read_message_whole}
 use Rattle.tables.proofs.Within.{within_only, within_any, within_from, within_value, within_below, within_most}
 use Rattle.tables.proofs.Rows.{unknown_map}
 

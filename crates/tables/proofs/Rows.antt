@@ -13,10 +13,10 @@ use lib.Dec.{leb, eqb, lit≤}
 use lib.ListN.{get_or, set}
 use borrow.Author.Tests.{ne_eqb, eqb-true, eqb-false, leb-true, not-true}
 use Rattle.message.specs.declared.Plan.{Plan}
-use Rattle.message.specs.Outcome.Laws.{both}
+use Rattle.message.proofs.Outcome.Laws.{both}
 use Rattle.message.specs.Form.{map1a, map1b, map1b_vote, map2a, map2b, map_decision, map_length}
-use Rattle.message.specs.Form.Laws.{known_map}
-use Rattle.message.specs.Form.Maps.{length_1a, length_1b, length_1b_vote, length_2a, length_2b, length_decision}
+use Rattle.message.proofs.Form.Laws.{known_map}
+use Rattle.message.proofs.Form.Maps.{length_1a, length_1b, length_1b_vote, length_2a, length_2b, length_decision}
 use Rattle.tables.specs.Tables.Bounds.{is_within, set_rows, put_row, put_bounds, bounds_of}
 use Rattle.tables.specs.Tables.Each.{each, each_at}
 use Rattle.tables.proofs.Within.{within_only, within_far}

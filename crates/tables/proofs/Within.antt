@@ -13,7 +13,7 @@ use lib.Dec.{leb, ltb, eqb, leb-zero}
 use borrow.Author.Tests.{eq-eqb, ne_eqb, le-leb, lt-leb, lt-ltb, le-ltb}
 use Rattle.message.specs.Form.{is_value}
 use Rattle.tables.specs.Tables.Bounds.{is_within}
-use Rattle.message.specs.Form.Maps.{is_value_bounds}
+use Rattle.message.proofs.Form.Maps.{is_value_bounds}
 
 pub over_more : (a b : ℕ) → b < a → eqb (a - b) 0 ≡ leb a b
 over_more a b h = rw (lt-leb a b h) (ne_eqb (a - b) 0 (λ e. not-suc-le-zero {n = 0} (omega arith)))

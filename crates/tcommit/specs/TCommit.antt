@@ -7,7 +7,6 @@
 --     TCStep, TCSpec                     [TCNext]_rmState; the behaviours that the specification allows
 --     TCConsistent                       no two resource managers have decided differently
 -- Assumes nothing.
-pub mod Laws
 use Rattle.std.specs.Prelude.{ℕ, suc, ◌≤◌, cond, ◌⊎◌, ◌≡◌, eqb}
 use Rattle.tcommit.specs.RmState.{working, prepared, committed, aborted}
 

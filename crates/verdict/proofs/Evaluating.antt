@@ -12,7 +12,7 @@ use lib.ListN.{length}
 use borrow.Author.Tests.{le-leb, lt-leb, eq-eqb, ne_eqb, ltb-true}
 use Rattle.message.specs.declared.Plan.{Plan}
 use Rattle.message.specs.Outcome.{Outcome, refused, refuse_if}
-use Rattle.message.specs.Outcome.Laws.{both}
+use Rattle.message.proofs.Outcome.Laws.{both}
 use Rattle.slots.specs.View.Bytes.{view_bytes}
 use Rattle.event.specs.Event.{kind_of, who_of, high_of, low_of, who_limit, are_arguments, is_event}
 use Rattle.change.specs.declared.Change.{Change}

@@ -1,7 +1,7 @@
 -- `acceptor::vote_at` meets its contract: a product of two bytes fits. Assumes nothing.
 use Rattle.acceptor.specs.Acceptor.{vote_at}
 use mathlib.Core.Path.{refl}
-use Rattle.message.specs.Plan.Laws.{bytes_bound}
+use Rattle.message.proofs.PlanLaws.{bytes_bound}
 use native.Mathlib.Omega.{arith}
 use Rattle.acceptor.proofs.vote_at.Goals as goal
 

@@ -4,7 +4,7 @@
 use Rattle.std.specs.Prelude.{ℕ, ◌≤◌, ◌<◌}
 use Rattle.std.proofs.Common.{arith}
 use Rattle.message.specs.declared.Plan.{Plan}
-use Rattle.message.specs.Plan.Laws.{bytes_bound}
+use Rattle.message.proofs.PlanLaws.{bytes_bound}
 use Rattle.acceptor.specs.Acceptor.{vote_at}
 
 pub vote_at_bound : (p : Plan) (ins acc : ℕ) → p.acceptors < 256 → ins < 256 → acc < 256 → vote_at p ins acc ≤ 195840

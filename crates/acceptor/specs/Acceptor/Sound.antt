@@ -7,7 +7,7 @@ use Rattle.std.proofs.Common.{eq-eqb, eqb-true}
 use Rattle.std.proofs.lemmas.Bool.{not-false}
 use Rattle.message.specs.declared.Plan.{Plan}
 use Rattle.message.specs.Outcome.{accepted, refuse_if}
-use Rattle.message.specs.Outcome.Laws.{refuse_if_accepted}
+use Rattle.message.proofs.Outcome.Laws.{refuse_if_accepted}
 use Rattle.message.specs.Plan.{is_plan}
 use Rattle.slots.specs.Table.{is_table_length, is_table}
 use Rattle.votes.specs.Votes.{are_votes}

@@ -5,7 +5,7 @@ use native.Mathlib.Omega.{arith}
 use borrow.Author.Tests.{eq-eqb, ne_eqb}
 use Rattle.message.proofs.Guards.{told, halt, pass}
 use Rattle.acceptor.specs.Acceptor.{acceptor_judged}
-use Rattle.message.specs.Plan.Laws.{bytes_bound}
+use Rattle.message.proofs.PlanLaws.{bytes_bound}
 use Rattle.acceptor_call.proofs.judge.Goals as goal
 
 -- row 1

@@ -5,7 +5,7 @@ use Rattle.std.specs.Prelude.{ℕ, List, ◌≡◌}
 use Rattle.std.proofs.Common.{sym, ap}
 use Rattle.message.specs.declared.Plan.{Plan}
 use Rattle.message.specs.Outcome.{Outcome, accepted, refused}
-use Rattle.message.specs.Outcome.Laws.{accepted_not_refused}
+use Rattle.message.proofs.Outcome.Laws.{accepted_not_refused}
 use Rattle.change.specs.declared.Change.{Change}
 use Rattle.change.specs.Change.{refusal, applied}
 

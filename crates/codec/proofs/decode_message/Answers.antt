@@ -1,6 +1,6 @@
 -- `codec::decode_message` meets its contract: the six bytes are those that `decode` reads. Assumes nothing.
 use mathlib.Core.Path.{◌∙◌}
-use Rattle.message.specs.Form.Maps.{decode_fields}
+use Rattle.message.proofs.Form.Maps.{decode_fields}
 use Rattle.codec.proofs.decode_message.Goals as goal
 
 pub returns : goal.returns

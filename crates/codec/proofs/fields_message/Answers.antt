@@ -1,6 +1,6 @@
 -- `codec::fields_message` meets its contract: each branch decides one map. Assumes nothing.
 use mathlib.Core.Path.{sym}
-use Rattle.message.specs.Form.Maps.{fields_1a, fields_1b, fields_1b_vote, fields_2a, fields_2b, fields_other}
+use Rattle.message.proofs.Form.Maps.{fields_1a, fields_1b, fields_1b_vote, fields_2a, fields_2b, fields_other}
 use Rattle.codec.proofs.fields_message.Goals as goal
 
 pub returns-then-map-eq-MAP_1A : goal.returns-then-map-eq-MAP_1A

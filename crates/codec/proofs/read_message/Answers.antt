@@ -2,8 +2,8 @@
 -- Assumes nothing.
 use mathlib.Core.Path.{◌∙◌, sym, ap}
 use Rattle.message.specs.Outcome.{accepted}
-use Rattle.message.specs.Outcome.Laws.{refused_number}
-use Rattle.message.specs.Codec.Laws.{read_message_number}
+use Rattle.message.proofs.Outcome.Laws.{refused_number}
+use Rattle.message.proofs.Codec.Laws.{read_message_number}
 use Rattle.codec.proofs.read_message.Goals as goal
 
 pub returns-then-number-ne0 : goal.returns-then-number-ne0

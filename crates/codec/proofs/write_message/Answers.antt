@@ -5,8 +5,8 @@ use mathlib.Core.List.{List}
 use mathlib.Core.Path.{sym, ◌∙◌, ap}
 use lib.ListN.{get_or}
 use Rattle.message.specs.Form.{map_length}
-use Rattle.message.specs.Form.Laws.{map_length_slot_of}
-use Rattle.message.specs.Codec.Laws.{write_message_plan, write_message_range, write_message_accepted}
+use Rattle.message.proofs.Form.Laws.{map_length_slot_of}
+use Rattle.message.proofs.Codec.Laws.{write_message_plan, write_message_range, write_message_accepted}
 use Rattle.message.proofs.Guards.{passed, failed}
 use borrow.Author.Rules.{rules}
 use Rattle.codec.proofs.write_message.Goals as goal

@@ -3,7 +3,7 @@ use mathlib.Core.Bool.{false≢true}
 use mathlib.Core.Path.{◌≡◌, refl, sym}
 use native.Mathlib.Omega.{arith}
 use borrow.Author.Rules.{rules}
-use Rattle.slots.specs.Table.Edge.{edge_within}
+use Rattle.slots.proofs.Table.Edge.{edge_within}
 use Rattle.decided.proofs.Deciding.{turn_next, turn_decides}
 use Rattle.decided.proofs.gather_slots.Goals as goal
 

@@ -4,7 +4,7 @@ use mathlib.Core.Path.{◌≡◌, refl, sym, ◌∙◌}
 use lib.ListN.{length, drop}
 use borrow.Author.Rules.{rules}
 use borrow.Author.Tests.{eq-eqb, ne_eqb}
-use Rattle.slots.specs.All.Laws.{all_step, all_stop, all_end}
+use Rattle.slots.proofs.All.Laws.{all_step, all_stop, all_end}
 use Rattle.ending.specs.Ending.{are_all}
 use Rattle.ending.proofs.are_all.Given as goal
 

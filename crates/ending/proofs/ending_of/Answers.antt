@@ -1,6 +1,6 @@
 -- `ending::ending_of` meets its contract: one law for each `return`. Assumes nothing.
 use mathlib.Core.Path.{sym, ◌∙◌}
-use Rattle.ending.specs.Ending.Laws.{ending_committed, ending_aborted, ending_open}
+use Rattle.ending.proofs.EndingLaws.{ending_committed, ending_aborted, ending_open}
 use Rattle.ending.proofs.ending_of.Goals as goal
 
 pub returns-then-are_all : goal.returns-then-are_all

@@ -9,7 +9,7 @@ use Rattle.std.proofs.Common.{arith}
 use Rattle.std.proofs.Math.Dec.{ltb, leb, eqb}
 use borrow.Author.Tests.{ltb-true, leb-true, le-leb, lt-leb, eq-eqb, ne_eqb}
 use Rattle.message.specs.declared.Plan.{Plan}
-use Rattle.message.specs.Outcome.Laws.{both}
+use Rattle.message.proofs.Outcome.Laws.{both}
 use Rattle.event.specs.Event.{kind_of, who_of, high_of, low_of, who_limit, are_arguments, is_event}
 
 pub record EventParts (p : Plan) (e : List ℕ) : Type 0 where

@@ -1,5 +1,5 @@
 -- `host_acceptor::paxos_commit_acceptor_step` meets its contract: the step, and the number of its answer. Assumes nothing.
-use Rattle.host_code.specs.Code.Laws.{coded}
+use Rattle.host_code.proofs.CodeLaws.{coded}
 use Rattle.host_acceptor.proofs.paxos_commit_acceptor_step.Goals as goal
 
 pub returns : goal.returns

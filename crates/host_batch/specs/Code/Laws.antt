@@ -8,7 +8,7 @@ use Rattle.message.specs.declared.Plan.{Plan}
 use Rattle.message.specs.Outcome.{Outcome, accepted, refused, number_of}
 use Rattle.record.specs.Record.{Tables}
 use Rattle.batch.specs.Run.{Run, record_run}
-use Rattle.batch.specs.Run.Laws.{run_refused}
+use Rattle.batch.proofs.RunLaws.{run_refused}
 use Rattle.host_batch.specs.Code.{host_run, host_run_of}
 
 pub run_coded : {r s : Run} → r ≡ s → {number : ℕ} → number ≡ number_of r.answer → host_run number r.tables r.answers ≡ host_run_of s

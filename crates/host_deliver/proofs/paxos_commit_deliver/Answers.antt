@@ -1,5 +1,5 @@
 -- `host_deliver::paxos_commit_deliver` meets its contract: the delivery, and the number of its answer. Assumes nothing.
-use Rattle.host_deliver.specs.Code.Laws.{delivery_coded}
+use Rattle.host_deliver.proofs.CodeLaws.{delivery_coded}
 use Rattle.host_deliver.proofs.paxos_commit_deliver.Goals as goal
 
 pub returns : goal.returns

@@ -1,8 +1,8 @@
 -- `host_message::message_code` meets its contract: each branch knows the map, so the length and the fields' places. Assumes nothing.
 use mathlib.Core.Path.{◌∙◌}
 use lib.Dec.{lit<}
-use Rattle.message.specs.Form.Maps.{length_1a, length_1b, length_1b_vote, length_2a, length_2b}
-use Rattle.message.specs.Form.Maps.{fields_1a, fields_1b, fields_1b_vote, fields_2a, fields_2b}
+use Rattle.message.proofs.Form.Maps.{length_1a, length_1b, length_1b_vote, length_2a, length_2b}
+use Rattle.message.proofs.Form.Maps.{fields_1a, fields_1b, fields_1b_vote, fields_2a, fields_2b}
 use Rattle.message.proofs.Guards.{within}
 use Rattle.host_message.proofs.Reading.{map_of, code_known, code_other}
 use Rattle.host_message.proofs.message_code.Goals as goal

@@ -1,6 +1,6 @@
 -- `host_message::paxos_commit_read` meets its contract: the refusal's number, or that of the bytes of a message. Assumes nothing.
 use mathlib.Core.Path.{◌∙◌, sym, ap}
-use Rattle.message.specs.Codec.Laws.{read_message_number, read_message_number_length}
+use Rattle.message.proofs.Codec.Laws.{read_message_number, read_message_number_length}
 use Rattle.host_message.specs.Code.{read_code}
 use Rattle.host_message.proofs.Reading.{read_refused}
 use Rattle.host_message.proofs.paxos_commit_read.Goals as goal

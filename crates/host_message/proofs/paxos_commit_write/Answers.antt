@@ -1,10 +1,10 @@
 -- `host_message::paxos_commit_write` meets its contract: each branch knows the map, the last of each group by what it is not. Assumes nothing.
 use mathlib.Core.Path.{◌∙◌, refl}
 use Rattle.message.specs.Form.{map1a, map1b, map1b_vote, map2a, map2b, map_decision}
-use Rattle.message.specs.Form.Laws.{known_decision, known_vote}
+use Rattle.message.proofs.Form.Laws.{known_decision, known_vote}
 use Rattle.message.proofs.Guards.{passed, failed}
 use Rattle.host_message.specs.Code.{message_with}
-use Rattle.host_message.specs.Code.Laws.{host_write_plan, host_write_unknown, host_write_message}
+use Rattle.host_message.proofs.CodeLaws.{host_write_plan, host_write_unknown, host_write_message}
 use Rattle.host_message.proofs.paxos_commit_write.Goals as goal
 
 pub returns-then-not-is_plan : goal.returns-then-not-is_plan

@@ -1,7 +1,7 @@
 -- `host_message::written_code` meets its contract: the refusal, or the eight bytes one by one. Assumes nothing.
 use mathlib.Core.Path.{◌∙◌}
 use borrow.Author.Rules.{rules}
-use Rattle.host_message.specs.Code.Laws.{written_refused}
+use Rattle.host_message.proofs.CodeLaws.{written_refused}
 use Rattle.host_message.proofs.Writing.{eight_packed}
 use Rattle.host_message.proofs.written_code.Goals as goal
 

@@ -1,7 +1,7 @@
 -- `inbox::gather_reports` meets its contract: the branch decides whether the plan is in range. Assumes nothing.
 use mathlib.Core.Path.{sym, ◌∙◌}
 use Rattle.message.proofs.Guards.{passed, failed}
-use Rattle.slots.specs.Table.Edge.{length_peek_messages}
+use Rattle.slots.proofs.Table.Edge.{length_peek_messages}
 use Rattle.inbox.specs.Inbox.Reports.{reports_bad_plan, reports_plan}
 use Rattle.inbox.proofs.gather_reports.Goals as goal
 

@@ -11,7 +11,7 @@ use Rattle.std.proofs.Math.Path.{refl, ap}
 use Rattle.std.proofs.Common.{sym, ◌∙◌, not-suc-le-zero, add-one, arith}
 use Rattle.std.proofs.Math.Decide.{ℕ_discrete}
 use Rattle.std.proofs.Math.Nat.{le_refl}
-use Rattle.message.specs.Outcome.Laws.{both}
+use Rattle.message.proofs.Outcome.Laws.{both}
 use Rattle.inbox.specs.Inbox.{for_all, for_some}
 
 module _ (test : ℕ → Bool) where

@@ -15,11 +15,11 @@ use Rattle.message.specs.declared.Vote.TheVariants.{None, Cast}
 use Rattle.message.specs.declared.Message.{Message}
 use Rattle.message.specs.declared.Message.TheVariants.{Phase1a, Phase1b, Phase2a, Phase2b, Decision}
 use Rattle.message.specs.Plan.{is_plan}
-use Rattle.message.specs.Plan.Laws.{plan_bounds}
+use Rattle.message.proofs.PlanLaws.{plan_bounds}
 use Rattle.quorum.specs.Quorum.{is_majority, is_quorum}
-use Rattle.quorum.specs.Quorum.Laws.{quorum_ext}
+use Rattle.quorum.proofs.Quorum.Laws.{quorum_ext}
 use Rattle.quorum.specs.Mask.{has_bit, join, ones}
-use Rattle.quorum.specs.Mask.Laws.{has_bit_zero, join_bit, mask_quorum}
+use Rattle.quorum.proofs.Mask.Laws.{has_bit_zero, join_bit, mask_quorum}
 use Rattle.inbox.specs.declared.Gathered.{Gathered}
 use Rattle.inbox.specs.declared.Reports.{Reports}
 use Rattle.inbox.specs.Inbox.{any, is1b, is2a, higher, report_of, highest_report, reports_of}

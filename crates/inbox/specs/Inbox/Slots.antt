@@ -12,11 +12,11 @@ use Rattle.message.specs.declared.Vote.TheVariants.{None, Cast}
 use Rattle.message.specs.declared.Message.{Message}
 use Rattle.message.specs.declared.Message.TheVariants.{Phase1a, Phase1b, Phase2a, Phase2b, Decision}
 use Rattle.message.specs.Form.{map1a, map1b, map1b_vote, map2a, map2b, fields_message, decode}
-use Rattle.message.specs.Form.Maps.{fields_1b, fields_1b_vote, fields_2a, Other, fields_cases, decode_fields}
+use Rattle.message.proofs.Form.Maps.{fields_1b, fields_1b_vote, fields_2a, Other, fields_cases, decode_fields}
 use Rattle.slots.specs.Table.{slot_size}
-use Rattle.slots.specs.Table.Laws.{get_d_slots}
+use Rattle.slots.proofs.Table.Laws.{get_d_slots}
 use Rattle.slots.specs.Table.Scan.{edge, peek_messages}
-use Rattle.slots.specs.Table.Edge.{edge_within, peek_next, peek_end}
+use Rattle.slots.proofs.Table.Edge.{edge_within, peek_next, peek_end}
 
 pub message_at : List ℕ → ℕ → Message
 message_at t at = fields_message (get_or t at 0) (get_or t (at + 1) 0) (get_or t (at + 2) 0) (get_or t (at + 3) 0) (get_or t (at + 4) 0) (get_or t (at + 5) 0)

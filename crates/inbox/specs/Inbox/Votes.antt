@@ -20,12 +20,12 @@ use Rattle.message.specs.declared.Plan.{Plan}
 use Rattle.message.specs.declared.Message.{Message}
 use Rattle.message.specs.declared.Message.TheVariants.{Phase1a, Phase1b, Phase2a, Phase2b, Decision}
 use Rattle.message.specs.Plan.{is_plan}
-use Rattle.message.specs.Plan.Laws.{plan_bounds}
-use Rattle.message.specs.Outcome.Laws.{both}
+use Rattle.message.proofs.PlanLaws.{plan_bounds}
+use Rattle.message.proofs.Outcome.Laws.{both}
 use Rattle.quorum.specs.Quorum.{is_majority, is_quorum}
-use Rattle.quorum.specs.Quorum.Laws.{quorum_apart}
+use Rattle.quorum.proofs.Quorum.Laws.{quorum_apart}
 use Rattle.quorum.specs.Mask.{has_bit, join, ones}
-use Rattle.quorum.specs.Mask.Laws.{has_bit_zero, join_bit, mask_quorum}
+use Rattle.quorum.proofs.Mask.Laws.{has_bit_zero, join_bit, mask_quorum}
 use Rattle.inbox.specs.Inbox.{any, is2b, chosen, is_chosen2b, decided}
 use Rattle.inbox.specs.Inbox.Reports.{or_next}
 

@@ -6,7 +6,7 @@ use Rattle.message.specs.declared.Plan.{Plan}
 use Rattle.message.specs.Plan.{is_plan}
 use mathlib.Core.Path.{◌≡◌, ◌∙◌}
 use borrow.Author.Tests.{le-leb}
-use Rattle.message.specs.Plan.Laws.{plan_bounds}
+use Rattle.message.proofs.PlanLaws.{plan_bounds}
 use Rattle.message.proofs.Guards.{told, halt, pass}
 use Rattle.leader.specs.Leader.{owns, phase1a}
 use Rattle.leader.proofs.phase1a_of.Goals as goal

@@ -9,19 +9,19 @@ use Rattle.message.specs.declared.Plan.{Plan}
 use Rattle.message.specs.declared.Message.{Message}
 use Rattle.message.specs.declared.Message.TheVariants.{Phase1a, Phase1b, Phase2a, Phase2b, Decision}
 use Rattle.message.specs.Outcome.{Outcome, accepted, refused, and_then, refuse_if}
-use Rattle.message.specs.Outcome.Laws.{accepted_not_refused}
+use Rattle.message.proofs.Outcome.Laws.{accepted_not_refused}
 use Rattle.message.specs.Form.{is_in_range}
 use Rattle.slots.specs.declared.Store.{Store}
 use Rattle.slots.specs.declared.Store.TheVariants.{Keep}
 use Rattle.slots.specs.declared.Send.{Send}
 use Rattle.slots.specs.declared.Send.TheVariants.{Slot, NoRoom}
 use Rattle.slots.specs.Table.{messages}
-use Rattle.slots.specs.Table.Holds.{holds_judged, table_holds, length_holds}
+use Rattle.slots.proofs.Table.Holds.{holds_judged, table_holds, length_holds}
 use Rattle.slots.specs.Send.{message_at}
-use Rattle.slots.specs.Send.Laws.{messages_holds, slot_in_range}
+use Rattle.slots.proofs.SendLaws.{messages_holds, slot_in_range}
 use Rattle.slots.specs.View.{View, view_table, sending}
 use Rattle.slots.specs.View.Bytes.{view_bytes}
-use Rattle.slots.specs.View.Laws.{send_sent}
+use Rattle.slots.proofs.View.Laws.{send_sent}
 use Rattle.change.specs.declared.Change.{Change}
 use Rattle.change.specs.declared.Update.TheVariants.{Inbox}
 use Rattle.change.specs.declared.Sent.{Sent}

@@ -5,7 +5,7 @@ use Prim.Native.Nat.{ℕ, ◌+◌, ◌≤◌}
 use mathlib.Core.Bool.{true}
 use lib.Count.{ones}
 use Rattle.message.specs.Form.{is_known, slot_size}
-use Rattle.message.specs.Form.Laws.{map_length_known, map_length_none, map_length_bound}
+use Rattle.message.proofs.Form.Laws.{map_length_known, map_length_none, map_length_bound}
 use Rattle.message.proofs.Guards.{passed, failed}
 use Rattle.message.proofs.map_length.Goals as goal
 

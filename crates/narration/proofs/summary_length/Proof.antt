@@ -1,5 +1,5 @@
 -- `narration::summary_length` is safe: the product of two bytes fits. Assumes nothing.
-use Rattle.message.specs.Plan.Laws.{bytes_bound}
+use Rattle.message.proofs.PlanLaws.{bytes_bound}
 use Prim.Native.Nat.{◌*◌, ◌≤◌}
 use borrow.Author.Rules.{rules}
 use native.Mathlib.Omega.{arith}

@@ -2,8 +2,8 @@
 use native.Mathlib.Omega.{arith}
 use borrow.Author.Tests.{eq-eqb, ne_eqb}
 use Rattle.message.proofs.Guards.{passed, failed}
-use Rattle.message.specs.Plan.Laws.{plan_bounds}
-use Rattle.message.specs.Plan.Laws.{bytes_bound}
+use Rattle.message.proofs.PlanLaws.{plan_bounds}
+use Rattle.message.proofs.PlanLaws.{bytes_bound}
 use Rattle.opening.specs.Opening.{are_lengths, inbox_size}
 use borrow.Author.Rules.{rules}
 use Rattle.opening.proofs.are_lengths.Goals as goal

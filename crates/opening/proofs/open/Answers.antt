@@ -1,6 +1,6 @@
 -- `opening::open` meets its contract: rows 1, 2 and 20, and then each table cleared. Assumes nothing.
 use native.Mathlib.Omega.{arith}
-use Rattle.message.specs.Plan.Laws.{bytes_bound}
+use Rattle.message.proofs.PlanLaws.{bytes_bound}
 use Rattle.opening.proofs.Opening.{open_refused, open_short, open_cleared}
 use borrow.Author.Rules.{rules}
 use Rattle.opening.proofs.open.Goals as goal

@@ -7,12 +7,6 @@
 -- Below: Growth.antt, what every action does and why that keeps the invariant; Agreement.antt, what the invariant gives; Rm.antt, Leader.antt
 -- and Acceptor.antt, a lemma for each action; Histories.antt, behaviours.
 -- Assumes nothing.
-pub mod Growth
-pub mod Agreement
-pub mod Rm
-pub mod Leader
-pub mod Acceptor
-pub mod Histories
 use Rattle.std.specs.Prelude.{ℕ, zero, suc, ◌≤◌, ◌<◌, Bool, true, ◌⊎◌, ◌≡◌}
 use Rattle.paxos_commit.specs.PaxosCommit.{Val, prepared, aborted, Bal, ballot, at_most, Message, phase1b, phase2a, phase2b}
 use Rattle.paxos_commit.specs.PaxosCommit.{Commit, Abort, AState, State, IsMessage, Decided}

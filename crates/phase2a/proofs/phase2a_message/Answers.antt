@@ -6,7 +6,7 @@ use Rattle.message.specs.declared.Plan.{Plan}
 use Rattle.message.specs.Plan.{is_plan}
 use mathlib.Core.Path.{◌≡◌, sym, ◌∙◌}
 use borrow.Author.Tests.{le-leb}
-use Rattle.message.specs.Plan.Laws.{plan_bounds}
+use Rattle.message.proofs.PlanLaws.{plan_bounds}
 use Rattle.message.proofs.Guards.{told, halt, pass}
 use Rattle.phase2a.specs.Phase2a.{owns, phase2a_message}
 use Rattle.phase2a.specs.Phase2a.Own.{refuses, proposes}

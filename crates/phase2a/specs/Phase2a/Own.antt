@@ -11,14 +11,14 @@ use Rattle.message.specs.declared.Plan.{Plan}
 use Rattle.message.specs.declared.Message.{Message}
 use Rattle.message.specs.declared.Message.TheVariants.{Phase2a}
 use Rattle.message.specs.Outcome.{Outcome, accepted, refused}
-use Rattle.message.specs.Outcome.Laws.{accepted_inj, accepted_not_refused}
+use Rattle.message.proofs.Outcome.Laws.{accepted_inj, accepted_not_refused}
 use Rattle.slots.specs.Table.{slot_size}
 use Rattle.slots.specs.Send.{message_at}
 use Rattle.slots.specs.declared.Store.{Store}
 use Rattle.slots.specs.declared.Store.TheVariants.{Put}
 use Rattle.slots.specs.View.{sending}
 use Rattle.slots.specs.View.Bytes.{view_bytes}
-use Rattle.slots.specs.View.Laws.{Absent, send_absent, send_absent_full}
+use Rattle.slots.proofs.View.Laws.{Absent, send_absent, send_absent_full}
 use Rattle.change.specs.declared.Sent.TheVariants.{Slot}
 use Rattle.change.specs.declared.Update.TheVariants.{Inbox}
 use Rattle.inbox.specs.Inbox.{any, is2a}

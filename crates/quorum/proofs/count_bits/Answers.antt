@@ -6,7 +6,7 @@ use lib.Bits.{and_mask}
 use lib.Count as Count
 use lib.Pow.{pow_pos}
 use borrow.Author.Rules.{rules}
-use Rattle.quorum.specs.Mask.Laws.{bit_value_32, ones_low, ones_all}
+use Rattle.quorum.proofs.Mask.Laws.{bit_value_32, ones_low, ones_all}
 use Rattle.quorum.proofs.count_bits.Goals as goal
 
 small : {total : ℕ} → total < 8 → total < 32

@@ -3,7 +3,7 @@ use mathlib.Core.Path.{◌∙◌, ap}
 use lib.Bits.{bit_or}
 use borrow.Author.Rules.{rules}
 use borrow.Author.Tests.{lt-ltb, le-ltb}
-use Rattle.quorum.specs.Mask.Laws.{bit_value, or_insert}
+use Rattle.quorum.proofs.Mask.Laws.{bit_value, or_insert}
 use Rattle.quorum.proofs.insert_bit.Goals as goal
 
 pub returns-then-acc-ge8 : goal.returns-then-acc-ge8

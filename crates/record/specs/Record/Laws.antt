@@ -11,9 +11,9 @@ use Rattle.std.proofs.Math.Dec.{eqb}
 use borrow.Author.Tests.{eq-eqb, eqb-true, not-false}
 use Rattle.message.specs.declared.Plan.{Plan}
 use Rattle.message.specs.Outcome.{accepted, refuse_if}
-use Rattle.message.specs.Outcome.Laws.{refuse_if_accepted, both}
+use Rattle.message.proofs.Outcome.Laws.{refuse_if_accepted, both}
 use Rattle.message.specs.Plan.{is_plan}
-use Rattle.message.specs.Plan.Laws.{plan_bounds}
+use Rattle.message.proofs.PlanLaws.{plan_bounds}
 use Rattle.slots.specs.Table.{is_table_length, is_table}
 use Rattle.inbox.specs.Inbox.Quantifiers.{for_all_all, all_for_all}
 use Rattle.rm.specs.Rm.{are_states, rm_judged}

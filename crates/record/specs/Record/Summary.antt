@@ -15,11 +15,11 @@ use Rattle.std.proofs.Math.Seq.{get_or-take, get_or-drop}
 use borrow.Author.Tests.{eq-eqb, ne_eqb, eqb-true, not-false}
 use Rattle.message.specs.declared.Plan.{Plan}
 use Rattle.message.specs.Outcome.{Outcome, accepted, refused, and_then, refuse_if}
-use Rattle.message.specs.Outcome.Laws.{refuse_if_accepted, accepted_not_refused, both}
+use Rattle.message.proofs.Outcome.Laws.{refuse_if_accepted, accepted_not_refused, both}
 use Rattle.message.specs.Plan.{is_plan}
-use Rattle.message.specs.Plan.Laws.{plan_bounds}
+use Rattle.message.proofs.PlanLaws.{plan_bounds}
 use Rattle.slots.specs.All.{all}
-use Rattle.slots.specs.All.Laws.{all_append}
+use Rattle.slots.proofs.All.Laws.{all_append}
 use Rattle.slots.specs.View.{View}
 use Rattle.change.specs.declared.Sent.{Sent}
 use Rattle.event.specs.Event.{kind_of, who_of}

@@ -1,5 +1,5 @@
 -- `refusal::is_order` meets its contract: one number is compared. Assumes nothing.
-use Rattle.message.specs.Form.Laws.{order_compared}
+use Rattle.message.proofs.Form.Laws.{order_compared}
 use Rattle.refusal.proofs.is_order.Goals as goal
 
 pub returns : goal.returns

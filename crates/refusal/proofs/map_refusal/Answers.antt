@@ -1,6 +1,6 @@
 -- `refusal::map_refusal` meets its contract: a number of the rows before is the reader's; else the order number decides. Assumes nothing.
 use mathlib.Core.Path.{sym, ◌∙◌}
-use Rattle.message.specs.Codec.Laws.{shape_whole, read_number_early, read_number_order}
+use Rattle.message.proofs.Codec.Laws.{shape_whole, read_number_early, read_number_order}
 use Rattle.refusal.proofs.map_refusal.Goals as goal
 
 pub shape_refusal-number-requires : goal.shape_refusal-number-requires

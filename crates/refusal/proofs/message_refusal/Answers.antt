@@ -2,7 +2,7 @@
 use mathlib.Core.Path.{refl, sym, ap}
 use borrow.Author.Rules.{rules}
 use Rattle.message.specs.Outcome.{number_of}
-use Rattle.message.specs.Codec.Laws.{read_message_plan, read_message_empty}
+use Rattle.message.proofs.Codec.Laws.{read_message_plan, read_message_empty}
 use Rattle.message.proofs.Guards.{passed, failed}
 use Rattle.refusal.proofs.Counts.{plan_rms, plan_acceptors, plan_leaders, plan_counts}
 use Rattle.refusal.proofs.message_refusal.Goals as goal

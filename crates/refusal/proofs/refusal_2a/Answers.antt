@@ -1,8 +1,8 @@
 -- `refusal::refusal_2a` meets its contract: the length is the table's entry, and each branch decides one field. Assumes nothing.
 use mathlib.Core.Path.{◌∙◌, sym}
 use lib.Dec.{lit<}
-use Rattle.message.specs.Form.Maps.{length_2a, decoded_2a}
-use Rattle.message.specs.Codec.Laws.{shape_length, shape_range, shape_none}
+use Rattle.message.proofs.Form.Maps.{length_2a, decoded_2a}
+use Rattle.message.proofs.Codec.Laws.{shape_length, shape_range, shape_none}
 use Rattle.message.proofs.Guards.{guards, passed, failed, within}
 use Rattle.refusal.proofs.Slices.{whole, not_whole}
 use Rattle.refusal.proofs.refusal_2a.Goals as goal

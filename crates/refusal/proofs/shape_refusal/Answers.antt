@@ -9,9 +9,10 @@ use lib.ListN.{get_or}
 use Rattle.message.specs.declared.Plan.{Plan}
 use Rattle.message.specs.Plan.{is_plan}
 use Rattle.message.specs.Form.{map1a, map1b, map1b_vote, map2a, map2b, map_decision, map_length}
-use Rattle.message.specs.Form.Laws.{map_length_unknown}
-use Rattle.message.specs.Form.Maps.{length_1a, length_1b, length_1b_vote, length_2a, length_2b, length_decision}
-use Rattle.message.specs.Codec.Laws.{shape_number, shape_unknown}
+use Rattle.message.proofs.Form.Laws.{map_length_unknown}
+use Rattle.message.proofs.Form.Maps.{length_1a, length_1b, length_1b_vote, length_2a, length_2b, length_decision}
+use Rattle.message.specs.Codec.Laws.{shape_number}
+use Rattle.message.proofs.Codec.Laws.{shape_unknown}
 use Rattle.refusal.proofs.Slices.{begins}
 use Rattle.refusal.proofs.shape_refusal.Goals as goal
 

@@ -1,6 +1,6 @@
 -- `rehearsal_input::plan_in` meets its contract: one law for each `return`. Assumes nothing.
 use Rattle.message.proofs.Guards.{passed, failed}
-use Rattle.rehearsal_input.specs.Input.Laws.{plan_in_short}
+use Rattle.rehearsal_input.proofs.Input.Laws.{plan_in_short}
 use Rattle.rehearsal_input.proofs.Parts.{plan_bad, plan_good}
 use borrow.Author.Rules.{rules}
 use mathlib.Core.Path.{sym}

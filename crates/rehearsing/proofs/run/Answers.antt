@@ -1,6 +1,6 @@
 -- `rehearsing::run` meets its contract: each part has the length that the plan asks for, so opening accepts, and leaves a sound record.
 -- Assumes nothing.
-use Rattle.message.specs.Plan.Laws.{plan_bounds}
+use Rattle.message.proofs.PlanLaws.{plan_bounds}
 use Rattle.rehearsing.proofs.Rehearsing.{votes_within, summary_within, opened_judged, run_opened}
 use lib.ListN.{length-take}
 use native.Mathlib.Omega.{arith}

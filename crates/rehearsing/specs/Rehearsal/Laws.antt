@@ -18,15 +18,15 @@ use Rattle.std.proofs.Math.Seq.{take-nil}
 use borrow.Author.Tests.{eq-eqb, leb-true}
 use Rattle.message.specs.declared.Plan.{Plan}
 use Rattle.message.specs.Outcome.{Outcome, accepted, refused, and_then, refuse_if, number_of}
-use Rattle.message.specs.Outcome.Laws.{both}
+use Rattle.message.proofs.Outcome.Laws.{both}
 use Rattle.message.specs.Form.{map_length}
-use Rattle.message.specs.Form.Laws.{map_length_zero}
+use Rattle.message.proofs.Form.Laws.{map_length_zero}
 use Rattle.message.specs.Plan.{is_plan}
-use Rattle.message.specs.Plan.Laws.{plan_bounds}
+use Rattle.message.proofs.PlanLaws.{plan_bounds}
 use Rattle.message.specs.Rows.{Rows, end, guard, here, below, First, InOrder}
 use Rattle.slots.specs.All.{all}
 use Rattle.slots.specs.Table.{slot_size, is_table_length, is_zero, is_table}
-use Rattle.slots.specs.Table.Laws.{is_table_first}
+use Rattle.slots.proofs.Table.Laws.{is_table_first}
 use Rattle.event.specs.Event.{is_event}
 use Rattle.rm.specs.Rm.{are_states}
 use Rattle.votes.specs.Votes.{is_vote_state, are_votes}
@@ -37,13 +37,13 @@ use Rattle.record.specs.Record.{Tables, inbox_size, are_lengths, lengths_judged,
 use Rattle.record.specs.Record.{inbox_of, are_inboxes, record_judged, lent_judged, record_step}
 use Rattle.record.specs.Record.Parts.{zeros_inbox_of}
 use Rattle.conformance.specs.Record.{record_rows}
-use Rattle.conformance.specs.Theorems.{record_answers, record_sound}
+use Rattle.conformance.proofs.Theorems.{record_answers, record_sound}
 use Rattle.batch.specs.Run.{events_of, single_calls, tables_left, numbers_of}
 use Rattle.safety.specs.Lists.{Call, event, answers, tables_after}
 use Rattle.rehearsal_input.specs.Input.{plan_in, events_in}
-use Rattle.rehearsal_input.specs.Input.Laws.{plan_in_number}
+use Rattle.rehearsal_input.proofs.Input.Laws.{plan_in_number}
 use Rattle.rehearsal_text.specs.Text.{line, word_of}
-use Rattle.rehearsal_text.specs.Text.Laws.{line_length, word_length}
+use Rattle.rehearsal_text.proofs.Text.Laws.{line_length, word_length}
 use Rattle.rehearsing.specs.Rehearsal.{calls_in, fresh_tables, lines_of, text_of, number_lines, cut_line, printed_for, rehearsed}
 
 pub calls_end : (most : ℕ) → calls_in most [] ≡ []

@@ -1,6 +1,6 @@
 -- `search::locate_form` meets its contract: up to `place` no slot is the form, and from the place near the edge on all are used. Assumes nothing.
 use mathlib.Core.Path.{sym, ◌∙◌}
-use Rattle.slots.specs.Table.Edge.{near_within}
+use Rattle.slots.proofs.Table.Edge.{near_within}
 use Rattle.search.specs.Words.Laws.{first_byte}
 use Rattle.search.proofs.Look.{is_form_lem, not_form, found_near, looked_near, looked_at, looked_next, looked_free, looked_full}
 use Rattle.search.proofs.locate_form.Goals as goal

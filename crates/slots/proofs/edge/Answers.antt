@@ -5,7 +5,7 @@ use lib.Dec.{lit≤}
 use lib.ListN.{length}
 use Rattle.slots.specs.Table.{slot_size}
 use Rattle.slots.specs.Table.Scan.{steps_from, edge}
-use Rattle.slots.specs.Table.Edge.{near_within}
+use Rattle.slots.proofs.Table.Edge.{near_within}
 use Rattle.slots.proofs.edge.Goals as goal
 
 pub next_edge-requires : goal.next_edge-requires

@@ -1,6 +1,6 @@
 -- `slots::message_at` meets its contract: the part that is read is the slot at the place. Assumes nothing.
 use mathlib.Core.Path.{◌∙◌}
-use Rattle.slots.specs.Table.Laws.{peek_at_in, peek_at_out}
+use Rattle.slots.proofs.Table.Laws.{peek_at_in, peek_at_out}
 use Rattle.slots.proofs.message_at.Goals as goal
 
 pub returns-then-count-place : goal.returns-then-count-place

@@ -1,7 +1,7 @@
 -- `slots::next_edge` meets its contract: steps from a place on lead where steps from the start do. Assumes nothing.
 use mathlib.Core.Path.{refl, sym, ◌∙◌}
 use native.Mathlib.Omega.{arith}
-use Rattle.slots.specs.Table.Edge.{step_yes, step_no, step_out, steps_next, steps_stop}
+use Rattle.slots.proofs.Table.Edge.{step_yes, step_no, step_out, steps_next, steps_stop}
 use Rattle.slots.proofs.next_edge.Goals as goal
 
 pub loop-place-init : goal.loop-place-init

@@ -2,7 +2,7 @@
 use mathlib.Core.Path.{sym, ◌∙◌, ap}
 use Rattle.message.specs.Outcome.{accepted}
 use Rattle.slots.specs.Table.Scan.{slot_message}
-use Rattle.slots.specs.Table.Scan.Laws.{peek_slot_unused, peek_slot_used}
+use Rattle.slots.proofs.Table.Scan.Laws.{peek_slot_unused, peek_slot_used}
 use Rattle.slots.proofs.slot_message.Goals as goal
 
 pub returns-then-byte_at-eq0 : goal.returns-then-byte_at-eq0

@@ -1,6 +1,6 @@
 -- `slots::store_message` meets its contract: the copied part is put back at its place. Assumes nothing.
 use mathlib.Core.Path.{sym}
-use Rattle.slots.specs.Table.Scan.Laws.{store_at_out}
+use Rattle.slots.proofs.Table.Scan.Laws.{store_at_out}
 use Rattle.slots.proofs.Copy.{store_part}
 use Rattle.slots.proofs.store_message.Goals as goal
 

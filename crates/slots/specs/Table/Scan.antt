@@ -7,7 +7,6 @@
 --     slots_held, peek_messages  the slots before it, and their messages
 --     locate                   the first of these with this form, else the slot after them
 -- Assumes nothing.
-pub mod Laws
 use Rattle.std.specs.Prelude.{ℕ, zero, suc, ◌+◌, ◌-◌, ◌*◌, ◌/◌, Bool, not, ◌&&◌, cond, List, [], ◌∷◌, map, ltb, leb, eqb, length, get_or, take}
 use Rattle.message.specs.declared.Message.{Message}
 use Rattle.message.specs.Outcome.{Outcome, accepted, refused}

@@ -1,6 +1,6 @@
 -- `summary::part_size` meets its contract: without a division it answers what one would. Assumes nothing.
 use native.Mathlib.Omega.{arith}
-use Rattle.message.specs.Plan.Laws.{bytes_bound}
+use Rattle.message.proofs.PlanLaws.{bytes_bound}
 use Rattle.summary.proofs.Parts.{no_leaders, whole_size}
 use Rattle.summary.proofs.part_size.Goals as goal
 

@@ -26,12 +26,12 @@ use Rattle.message.specs.declared.Plan.{Plan}
 use Rattle.message.specs.declared.Message.{Message}
 use Rattle.message.specs.declared.Message.TheVariants.{Phase1a, Phase1b, Phase2a, Phase2b, Decision}
 use Rattle.message.specs.Outcome.{Outcome, accepted, refused}
-use Rattle.message.specs.Outcome.Laws.{both}
+use Rattle.message.proofs.Outcome.Laws.{both}
 use Rattle.message.specs.Form.{is_value, is_in_range}
 use Rattle.slots.specs.All.{all}
-use Rattle.slots.specs.All.Laws.{all_set}
+use Rattle.slots.proofs.All.Laws.{all_set}
 use Rattle.quorum.specs.Mask.{has_bit, insert_bit, join}
-use Rattle.quorum.specs.Mask.Laws.{has_bit_insert, has_bit_other, join_bit}
+use Rattle.quorum.proofs.Mask.Laws.{has_bit_insert, has_bit_other, join_bit}
 use Rattle.inbox.specs.Inbox.{any, decided}
 use Rattle.summary.specs.Summary.{is_summary, stands, is_decline, with_bit, marked, marked_at, decided_or_declined, standing}
 

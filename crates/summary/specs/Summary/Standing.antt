@@ -21,10 +21,10 @@ use Rattle.std.proofs.Math.Seq.{get_or-set_other}
 use Rattle.message.specs.declared.Plan.{Plan}
 use Rattle.message.specs.declared.Message.{Message}
 use Rattle.message.specs.declared.Message.TheVariants.{Phase1a, Phase1b, Phase2a, Phase2b, Decision}
-use Rattle.message.specs.Outcome.Laws.{both}
+use Rattle.message.proofs.Outcome.Laws.{both}
 use Rattle.message.specs.Form.{is_in_range}
 use Rattle.quorum.specs.Quorum.{is_quorum}
-use Rattle.quorum.specs.Quorum.Laws.{quorum_ext, quorum_apart}
+use Rattle.quorum.proofs.Quorum.Laws.{quorum_ext, quorum_apart}
 use Rattle.quorum.specs.Mask.{has_bit, insert_bit, join}
 use Rattle.inbox.specs.Inbox.{any, is2b, chosen, is_chosen2b, decided}
 use Rattle.inbox.specs.Inbox.Members.{member_any, any_joined}

@@ -1,7 +1,7 @@
 -- `tables::is_table` meets its contract: a table that begins with 0 is zeros, and so is one of a plan out of range. Assumes nothing.
 use mathlib.Core.Path.{sym, ◌∙◌}
 use Rattle.message.proofs.Guards.{passed, failed}
-use Rattle.slots.specs.Table.Laws.{is_table_none}
+use Rattle.slots.proofs.Table.Laws.{is_table_none}
 use Rattle.tables.specs.Tables.Bounds.{bounds_of}
 use Rattle.tables.proofs.Forms.{plan_used, first_zero}
 use Rattle.tables.proofs.is_table.Goals as goal

@@ -1,10 +1,10 @@
 -- `tables::put_bounds` meets its contract: the rows one after the other, each at the map of its form. Assumes nothing.
 use mathlib.Core.Path.{refl}
 use borrow.Author.Rules.{rules}
-use Rattle.message.specs.Plan.Laws.{plan_bounds}
+use Rattle.message.proofs.PlanLaws.{plan_bounds}
 use Rattle.message.specs.Form.{map1a, map1b, map1b_vote, map2a, map2b, map_decision}
 use Rattle.tables.specs.Tables.Bounds.{put_bounds}
-use Rattle.message.specs.Form.Maps.{slot_1a, slot_1b, slot_1b_vote, slot_2a, slot_2b, slot_decision}
+use Rattle.message.proofs.Form.Maps.{slot_1a, slot_1b, slot_1b_vote, slot_2a, slot_2b, slot_decision}
 use Rattle.tables.proofs.Rows.{put_row_lem}
 use Rattle.tables.proofs.put_bounds.Goals as goal
 

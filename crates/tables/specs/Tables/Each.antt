@@ -12,7 +12,7 @@ use Rattle.std.proofs.Common.{sym, ◌∙◌, add-zero, add-suc, not-suc-le-zero
 use Rattle.std.proofs.Math.Decide.{ℕ_discrete}
 use Rattle.std.proofs.Math.Nat.{zero-add}
 use Rattle.std.proofs.Math.Numerals.{add-one}
-use Rattle.message.specs.Outcome.Laws.{both}
+use Rattle.message.proofs.Outcome.Laws.{both}
 use Rattle.slots.specs.All.{all}
 use Rattle.slots.specs.Table.{is_zero}
 

@@ -18,15 +18,15 @@ use Rattle.message.specs.declared.Message.{Message}
 use Rattle.message.specs.Outcome.{Outcome, refused}
 use Rattle.message.specs.Plan.{is_plan}
 use Rattle.message.specs.Form.{map_length}
-use Rattle.message.specs.Form.Laws.{map_length_zero}
+use Rattle.message.proofs.Form.Laws.{map_length_zero}
 use Rattle.message.specs.Codec.{read_message}
-use Rattle.message.specs.Codec.Laws.{read_message_plan, read_message_empty}
-use Rattle.message.specs.Outcome.Laws.{both}
+use Rattle.message.proofs.Codec.Laws.{read_message_plan, read_message_empty}
+use Rattle.message.proofs.Outcome.Laws.{both}
 use Rattle.slots.specs.All.{all}
 use Rattle.slots.specs.Table.{Slot, Unused, Used, Bad, slot_size, is_zero, used_slot, read_slot, read_table, is_table}
 use Rattle.slots.specs.Table.Scan.{edge}
-use Rattle.slots.specs.Table.Edge.{Reached, edge_reached, edge_unused}
-use Rattle.slots.specs.Table.Laws.{leading_used, read_slot_unused, slot_at, length_read_table, leading_used_bound, is_table_zero}
+use Rattle.slots.proofs.Table.Edge.{Reached, edge_reached, edge_unused}
+use Rattle.slots.proofs.Table.Laws.{leading_used, read_slot_unused, slot_at, length_read_table, leading_used_bound, is_table_zero}
 use Rattle.tables.specs.Tables.Each.{each, each_at, each_all}
 
 abbrev pub is_used : Slot → Bool

@@ -5,7 +5,7 @@
 pub mod Lanes
 use Rattle.std.specs.Prelude.{ℕ, zero, suc, ◌+◌, ◌*◌, ◌-◌, ◌≤◌, ◌<◌, true, false, List, [], ◌∷◌, ◌≡◌, refl, length, get_or, drop, set}
 use Rattle.std.proofs.Common.{arith, lit≤, length-drop, length-set, drop-cons}
-use Rattle.message.specs.Outcome.Laws.{both}
+use Rattle.message.proofs.Outcome.Laws.{both}
 use Rattle.votes.specs.Votes.{is_vote_state, are_votes}
 
 module _ (l : List ℕ) (i : ℕ) where

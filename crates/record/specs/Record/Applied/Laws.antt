@@ -5,7 +5,7 @@ use Rattle.std.specs.Prelude.{ℕ, Bool, ◌&&◌, List, ◌≡◌, refl}
 use Rattle.std.proofs.Common.{sym, ap}
 use Rattle.message.specs.declared.Plan.{Plan}
 use Rattle.message.specs.Outcome.{Outcome, accepted, refused}
-use Rattle.message.specs.Outcome.Laws.{accepted_not_refused}
+use Rattle.message.proofs.Outcome.Laws.{accepted_not_refused}
 use Rattle.message.specs.Plan.{is_plan}
 use Rattle.slots.specs.View.Bytes.{view_bytes}
 use Rattle.change.specs.declared.Change.{Change}

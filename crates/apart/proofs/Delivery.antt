@@ -1,0 +1,2 @@
+-- Laws of Delivery.
+pub mod Ruled

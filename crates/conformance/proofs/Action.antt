@@ -1,0 +1,2 @@
+-- Laws of Action.
+pub mod Laws

@@ -1,0 +1,2 @@
+-- Laws of Answer.
+pub mod Laws

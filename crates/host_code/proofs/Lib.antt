@@ -1,0 +1,3 @@
+-- The proofs that belong to no one function.
+pub mod CodeLaws
+pub mod Theorems

@@ -1,0 +1,4 @@
+-- Laws of Acceptor.
+pub mod Laws
+pub mod Ruled
+pub mod Votes

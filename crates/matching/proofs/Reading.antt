@@ -1,0 +1,2 @@
+-- Laws of Reading.
+pub mod Laws

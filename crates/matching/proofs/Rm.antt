@@ -1,0 +1,3 @@
+-- Laws of Rm.
+pub mod Laws
+pub mod Ruled

@@ -1,0 +1,3 @@
+-- Laws of Codec.
+pub mod Answers
+pub mod Laws

@@ -1,0 +1,3 @@
+-- Laws of Form.
+pub mod Laws
+pub mod Maps

@@ -1,0 +1,2 @@
+-- Laws of Outcome.
+pub mod Laws

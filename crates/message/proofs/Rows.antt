@@ -1,0 +1,3 @@
+-- Laws of Rows.
+pub mod Laws
+pub mod Named

@@ -1,0 +1,3 @@
+-- Laws of PaxosCommit.
+pub mod Laws
+pub mod Safety

@@ -1,0 +1,3 @@
+-- Laws of Widened.
+pub mod Early
+pub mod Laws

@@ -1,0 +1,2 @@
+-- Laws of Mask.
+pub mod Laws

@@ -1,0 +1,3 @@
+-- Laws of Quorum.
+pub mod Laws
+pub mod Sets

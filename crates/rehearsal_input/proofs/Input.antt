@@ -1,0 +1,2 @@
+-- Laws of Input.
+pub mod Laws

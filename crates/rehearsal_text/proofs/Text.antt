@@ -1,0 +1,2 @@
+-- Laws of Text.
+pub mod Laws

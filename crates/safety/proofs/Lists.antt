@@ -1,0 +1,2 @@
+-- Laws of Lists.
+pub mod Laws

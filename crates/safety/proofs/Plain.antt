@@ -1,0 +1,2 @@
+-- Laws of Plain.
+pub mod Laws

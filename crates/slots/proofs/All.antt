@@ -1,0 +1,2 @@
+-- Laws of All.
+pub mod Laws

@@ -1,0 +1,2 @@
+-- Laws of Scan.
+pub mod Laws

@@ -1,0 +1,2 @@
+-- Laws of Words.
+pub mod Laws

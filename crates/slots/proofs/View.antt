@@ -1,0 +1,2 @@
+-- Laws of View.
+pub mod Laws

@@ -1,0 +1,2 @@
+-- The proofs that belong to no one function.
+pub mod TCommit

@@ -1,0 +1,2 @@
+-- Laws of TCommit.
+pub mod Laws
