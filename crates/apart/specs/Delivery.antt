@@ -1,7 +1,7 @@
 -- A delivery in the documents' words: the rows of "Refusals by place", and 18 of document 02, that it answers by.
 --     NoPlace          13, of the message that the bytes are
 --     deliver_rows     1, 2 and 5 of N, this, and 15 to 18 of the reader
--- The theorems are in Theorems.antt, their proofs in Delivery/Ruled.antt. Assumes nothing.
+-- The theorems are in proofs/Theorems.antt, their proofs in proofs/Delivery/Ruled.antt. Assumes nothing.
 use Rattle.std.specs.Prelude.{ℕ, false, List, ◌≡◌, length}
 use Rattle.message.specs.declared.Plan.{Plan}
 use Rattle.message.specs.declared.Message.{Message}

@@ -10,7 +10,7 @@
 --     Fresh, zero_hosts           the first system: zeros of any lengths
 --     system_after, answers, AllGenuine    what a list of happenings leaves and answers, and what is asked of it
 --     Safe, AfterEach             the three claims of demand 3; a claim about each happening of a list
--- The theorems are in Theorems.antt, Words.antt and Behaviour.antt; why they hold stands in Hosts/. Assumes nothing.
+-- The theorems are in proofs/Theorems.antt, proofs/Words.antt and proofs/Behaviour.antt; why they hold stands in Hosts/. Assumes nothing.
 use Rattle.std.specs.Prelude.{ℕ, ◌%◌, true, ◌⊎◌, ◌≡◌, length, replicate}
 use mathlib.Core.List.{List, [], ◌∷◌, ◌++◌, Memᴰ}
 use Rattle.message.specs.declared.Plan.{Plan}

@@ -5,7 +5,7 @@
 --     Run, run_of                    what the list call answers and leaves in the tables and in the lent answers
 --     is_list, run_judged           row 19; rows 1 to 6, then 19, then 20
 --     finished_run, settled_run, record_run  the list call: the single calls' tables and numbers; a refused one changes no byte
--- Its laws are in Run/Laws.antt. Assumes nothing.
+-- Its laws are in proofs/RunLaws.antt. Assumes nothing.
 use Rattle.std.specs.Prelude.{ℕ, ◌*◌, ◌/◌, ◌%◌, Bool, ◌&&◌, not, List, [], ◌∷◌, map, eqb, length}
 use Rattle.message.specs.declared.Plan.{Plan}
 use Rattle.message.specs.Outcome.{Outcome, accepted, refused, and_then, refuse_if, number_of}

@@ -1,4 +1,4 @@
--- The published action of an event (demand 2). What is proved of it is in Action/Laws.antt, and stated in the crate demands.
+-- The published action of an event (demand 2). What is proved of it is in proofs/Action/Laws.antt, and stated in the crate demands.
 --     received       what the event's leader has received: its own inbox (`OwnStands` of Record.antt is what it reads as Decided)
 --     ActsOnSlot     the published action of an acceptor on the message in the event's slot
 --     Action         the published action of an event, of each kind

@@ -1,4 +1,4 @@
--- What the match of the event call with module PaxosCommit speaks of. The theorems are in Theorems.antt, their proofs in Record/.
+-- What the match of the event call with module PaxosCommit speaks of. The theorems are in proofs/Theorems.antt, their proofs in Record/.
 --     record_state   the variables rmState, aState and msgs, as W, Q and N hold them
 --     own_inbox, own_summary, OwnStands   the inbox of the event's leader; its bytes of the summary, and what they say is Decided
 --     on_own         a leader's own step as a step of the record

@@ -5,7 +5,7 @@
 --     other_order_record      where it stands in N row 5 of the event call applies, where it stands in an inbox row 6
 --     other_order_list        likewise of the list call
 --     other_order_roles       likewise of the roles' own calls
--- What applies is what is refused (`demand_1_first`). Opening and ending look at no message; the delivery is in apart/specs/Theorems.antt. The
+-- What applies is what is refused (`demand_1_first`). Opening and ending look at no message; the delivery is in apart/proofs/Theorems.antt. The
 -- demands are for every plan, so for each order number. The proofs are in Orders/Laws.antt. Assumes nothing.
 pub mod Laws
 use Rattle.std.specs.Prelude.{ℕ, ◌<◌, true, ◌≡◌}

@@ -2,7 +2,7 @@
 --     AcceptedOr               an acceptance, or one refusal number from the documents: one of these
 --     one_to14, to14_and20   the numbers of a call that judges tables and an event; and of one that is lent a summary
 --     KeepsOwn, KeepsLeader    that, of a role's own call, and a refusal leaves what it was lent
--- Its laws are in Answer/Laws.antt. Assumes nothing.
+-- Its laws are in proofs/Answer/Laws.antt. Assumes nothing.
 use Rattle.std.specs.Prelude.{ℕ, ◌⊎◌, ◌≡◌}
 use mathlib.Core.List.{List, [], ◌∷◌, Memᴰ}
 use Rattle.message.specs.Outcome.{Outcome, accepted, refused}

@@ -1,2 +1,2 @@
 #![tactic(auto)]
-// Document 01's proved examples. There is no code here: specs/Examples.antt holds the table, and one theorem proves it.
+// Document 01's proved examples. There is no code here: proofs/Examples.antt holds the table, and one theorem proves it.

@@ -8,19 +8,24 @@
 // compares the two.
 //
 //     Head, head_of                   how a history begins, and its plan
+//     read_full, read_number          bytes of standard input, and a number of two
 //     read_end, read_part             as many bytes of a buffer as the next number says
 //     fold, say_digest                every byte of W, Q, N, I and the summary, as one number below a prime
 //     say_table                       a table without the zeros at its end
 //     run_event                       an event call
 //     lent_answers, run_list          what a list call is lent for the answers, and the call
 //     run_calls, run                  the calls of a history on the parts of buffers that are its tables
+//     run_histories                   all histories
+//
+// A read or a write that fails ends the program with its error.
 //
 // Each function is proved to be safe and to end; none has a contract on what it prints. Assumes nothing of its own.
-ghost use Rattle.std.specs.Prelude.{◌≡◌, ◌≤◌, min, length};
+ghost use Rattle.std.specs.Prelude.{◌≡◌, ◌≤◌, min, length, IfOk};
 
 use change::{Answer, Judged, Sent};
-use libc::{STDIN_FILENO, STDOUT_FILENO};
 use message::Plan;
+use std::io;
+use std::io::{BufReader, BufWriter, Read, Write};
 
 const MAX_HISTORIES: usize = 65536;
 
@@ -54,12 +59,41 @@ fn least(a: usize, b: usize) -> usize
     if a < b { a } else { b }
 }
 
-fn say(words: &[u8]) {
-    io::write_all(STDOUT_FILENO, words);
+// 4,096 zeros.
+fn buffer() -> [u8; 4096]
+    ensures { 4096 ≡ length result }
+{
+    [0; 4096]
 }
 
-fn say_number(number: u64) {
-    io::print_decimal(STDOUT_FILENO, number);
+// 65,536 zeros.
+fn large_buffer() -> [u8; 65536]
+    ensures { 65536 ≡ length result }
+{
+    [0; 65536]
+}
+
+// Reads until the buffer is full or the input ends: how many bytes begin the buffer.
+fn read_full<R: Read>(input: &mut R, buffer: &mut [u8]) -> io::Result<usize>
+    ensures { IfOk result (λ count. count ≤ length buffer.new) }
+{
+    let mut done: usize = 0;
+    while done < buffer.len() {
+        let more = input.read(&mut buffer[done..])?;
+        if more == 0 {
+            return Ok(done);
+        }
+        done += more;
+    }
+    Ok(done)
+}
+
+fn say<W: Write>(output: &mut W, words: &[u8]) -> io::Result<()> {
+    output.write_all(words)
+}
+
+fn say_number<W: Write>(output: &mut W, number: u64) -> io::Result<()> {
+    write!(output, "{number}")
 }
 
 // One byte more of a number that is written with the lowest byte first and read from its end, modulo the prime.
@@ -72,45 +106,48 @@ fn fold_byte(sum: u32, byte: u8) -> u32 {
 
 fn fold(bytes: &[u8], after: u32) -> u32 {
     let mut sum = after;
-    let mut i = bytes.len();
-    while 0 < i {
-        i -= 1;
-        sum = fold_byte(sum, bytes[i]);
+    for byte in bytes.iter().rev() {
+        sum = fold_byte(sum, *byte);
     }
     sum
 }
 
 // The bytes of W, Q, N, I and the summary, one after the other, as one number modulo the prime, the lowest byte first.
-fn say_digest(states: &[u8], votes: &[u8], network: &[u8], inboxes: &[u8], summary: &[u8]) {
+fn say_digest<W: Write>(
+    output: &mut W,
+    states: &[u8],
+    votes: &[u8],
+    network: &[u8],
+    inboxes: &[u8],
+    summary: &[u8],
+) -> io::Result<()> {
     let last = fold(inboxes, fold(summary, 0));
     let sum = fold(states, fold(votes, fold(network, last)));
-    say(b" ");
-    io::print_hex(STDOUT_FILENO, sum as u64, 8);
-    say(b"\n");
+    write!(output, " {sum:08x}\n")
 }
 
 // The answer: 0 with the slot, 0 with - for quiet, or the refusal.
-fn say_sent(sent: Sent) {
+fn say_sent<W: Write>(output: &mut W, sent: Sent) -> io::Result<()> {
     match sent {
         Sent::Slot(slot) => {
-            say(b"0 ");
-            say_number(slot as u64);
+            say(output, b"0 ")?;
+            say_number(output, slot as u64)
         }
-        Sent::Quiet => say(b"0 -"),
+        Sent::Quiet => say(output, b"0 -"),
     }
 }
 
-fn say_answer(answer: Answer) {
+fn say_answer<W: Write>(output: &mut W, answer: Answer) -> io::Result<()> {
     match answer {
-        Answer::Accepted(sent) => say_sent(sent),
-        Answer::Refused(number) => say_number(number as u64),
+        Answer::Accepted(sent) => say_sent(output, sent),
+        Answer::Refused(number) => say_number(output, number as u64),
     }
 }
 
 // What an opening and a list call answer: 0 or the refusal.
-fn say_judged(call: &[u8], judged: Judged) {
-    say(call);
-    say_number(change::judged_number(judged) as u64);
+fn say_judged<W: Write>(output: &mut W, call: &[u8], judged: Judged) -> io::Result<()> {
+    say(output, call)?;
+    say_number(output, change::judged_number(judged) as u64)
 }
 
 // Where the zeros at the end of a table begin.
@@ -127,43 +164,39 @@ fn used_end(table: &[u8]) -> usize
     0
 }
 
-fn say_hex(byte: u8) {
-    io::print_hex(STDOUT_FILENO, byte as u64, 2);
-}
-
-fn say_bytes(bytes: &[u8]) {
-    let mut i: usize = 0;
-    while i < bytes.len() {
-        say_hex(bytes[i]);
-        i += 1;
+fn say_bytes<W: Write>(output: &mut W, bytes: &[u8]) -> io::Result<()> {
+    for byte in bytes {
+        write!(output, "{byte:02x}")?;
     }
+    Ok(())
 }
 
 // A table in hexadecimal, without the zeros at its end.
-fn say_table(table: &[u8]) {
+fn say_table<W: Write>(output: &mut W, table: &[u8]) -> io::Result<()> {
     let end = used_end(table);
     let used = &table[..end];
-    say(b"[");
-    say_bytes(used);
-    say(b"]\n");
+    say(output, b"[")?;
+    say_bytes(output, used)?;
+    say(output, b"]\n")
 }
 
-fn say_tables(
+fn say_tables<W: Write>(
+    output: &mut W,
     mode: u8,
     states: &[u8],
     votes: &[u8],
     network: &[u8],
     inboxes: &[u8],
     summary: &[u8],
-) {
+) -> io::Result<()> {
     if 4 <= mode {
-        return;
+        return Ok(());
     }
-    say_table(states);
-    say_table(votes);
-    say_table(network);
-    say_table(inboxes);
-    say_table(summary);
+    say_table(output, states)?;
+    say_table(output, votes)?;
+    say_table(output, network)?;
+    say_table(output, inboxes)?;
+    say_table(output, summary)
 }
 
 // A number of two bytes, the higher first.
@@ -175,33 +208,37 @@ fn pair_of(b: &[u8; 2]) -> usize {
     number_of(b[0], b[1])
 }
 
-fn read_number() -> usize {
+// Where the input ends before, 0.
+fn read_number<R: Read>(input: &mut R) -> io::Result<usize> {
     let mut bytes = [0u8; 2];
-    if io::read_full(STDIN_FILENO, &mut bytes) < 2 {
-        return 0;
+    if read_full(input, &mut bytes)? < 2 {
+        return Ok(0);
     }
-    pair_of(&bytes)
+    Ok(pair_of(&bytes))
 }
 
 // Reads where a part at the start of the buffer ends.
-fn read_end(buffer: &[u8]) -> usize
-    ensures { result ≤ length buffer.now }
+fn read_end<R: Read>(input: &mut R, buffer: &[u8]) -> io::Result<usize>
+    ensures { IfOk result (λ end. end ≤ length buffer.now) }
 {
-    least(read_number(), buffer.len())
+    let number = read_number(input)?;
+    Ok(least(number, buffer.len()))
 }
 
 // The same, and then the part's bytes.
-fn read_part(buffer: &mut [u8]) -> usize
-    ensures { result ≤ length buffer.new }
+fn read_part<R: Read>(input: &mut R, buffer: &mut [u8]) -> io::Result<usize>
+    ensures { IfOk result (λ end. end ≤ length buffer.new) }
 {
-    let end = read_end(buffer);
+    let end = read_end(input, buffer)?;
     let part = &mut buffer[..end];
-    io::read_full(STDIN_FILENO, part);
-    end
+    read_full(input, part)?;
+    Ok(end)
 }
 
 // Reads an event of the length, and makes it.
-fn run_event(
+fn run_event<R: Read, W: Write>(
+    input: &mut R,
+    output: &mut W,
     plan: Plan,
     states: &mut [u8],
     votes: &mut [u8],
@@ -210,12 +247,12 @@ fn run_event(
     summary: &mut [u8],
     buffer: &mut [u8],
     size: u8,
-) {
+) -> io::Result<()> {
     let end = least(size as usize, buffer.len());
     let event = &mut buffer[..end];
-    io::read_full(STDIN_FILENO, event);
+    read_full(input, event)?;
     let answer = record::step(plan, states, votes, network, inboxes, summary, event);
-    say_answer(answer);
+    say_answer(output, answer)
 }
 
 // The answers before a list call, of which its first bytes are lent: every byte is AA, which is no number.
@@ -226,15 +263,17 @@ fn lent_answers() -> [u8; 65536]
 }
 
 // A list call's answer, and those to its events.
-fn say_run(judged: Judged, answers: &[u8]) {
-    say_judged(b"run ", judged);
-    say(b" [");
-    say_bytes(answers);
-    say(b"]");
+fn say_run<W: Write>(output: &mut W, judged: Judged, answers: &[u8]) -> io::Result<()> {
+    say_judged(output, b"run ", judged)?;
+    say(output, b" [")?;
+    say_bytes(output, answers)?;
+    say(output, b"]")
 }
 
 // Reads how long the answers are, and a list, and makes the list call.
-fn run_list(
+fn run_list<R: Read, W: Write>(
+    input: &mut R,
+    output: &mut W,
     plan: Plan,
     states: &mut [u8],
     votes: &mut [u8],
@@ -243,19 +282,21 @@ fn run_list(
     summary: &mut [u8],
     buffer: &mut [u8],
     lent: &mut [u8],
-) {
-    let room = read_end(lent);
+) -> io::Result<()> {
+    let room = read_end(input, lent)?;
     let answers = &mut lent[..room];
-    let end = read_part(buffer);
+    let end = read_part(input, buffer)?;
     let events = &buffer[..end];
     let judged = batch::run(
         plan, states, votes, network, inboxes, summary, events, answers,
     );
-    say_run(judged, answers);
+    say_run(output, judged, answers)
 }
 
 // Makes the call that begins with the byte.
-fn run_call(
+fn run_call<R: Read, W: Write>(
+    input: &mut R,
+    output: &mut W,
     plan: Plan,
     states: &mut [u8],
     votes: &mut [u8],
@@ -263,82 +304,73 @@ fn run_call(
     inboxes: &mut [u8],
     summary: &mut [u8],
     size: u8,
-) {
+) -> io::Result<()> {
     if size == LIST {
-        let mut large = io::large_buffer();
+        let mut large = large_buffer();
         let mut lent = lent_answers();
-        run_list(
-            plan, states, votes, network, inboxes, summary, &mut large, &mut lent,
+        return run_list(
+            input, output, plan, states, votes, network, inboxes, summary, &mut large, &mut lent,
         );
-        return;
     }
-    let mut buffer = io::buffer();
+    let mut event = buffer();
     run_event(
-        plan,
-        states,
-        votes,
-        network,
-        inboxes,
-        summary,
-        &mut buffer,
-        size,
-    );
+        input, output, plan, states, votes, network, inboxes, summary, &mut event, size,
+    )
 }
 
 fn byte_of(b: &[u8; 1]) -> u8 {
     b[0]
 }
 
-fn run_calls(
+fn run_calls<R: Read, W: Write>(
+    input: &mut R,
+    output: &mut W,
     plan: Plan,
     states: &mut [u8],
     votes: &mut [u8],
     network: &mut [u8],
     inboxes: &mut [u8],
     summary: &mut [u8],
-) {
-    let count = read_number();
-    let mut k: usize = 0;
-    while k < count {
+) -> io::Result<()> {
+    let count = read_number(input)?;
+    for _ in 0..count {
         let mut byte = [0u8; 1];
-        if io::read_full(STDIN_FILENO, &mut byte) < 1 {
-            return;
+        if read_full(input, &mut byte)? < 1 {
+            return Ok(());
         }
+        let size = byte_of(&byte);
         run_call(
-            plan,
-            states,
-            votes,
-            network,
-            inboxes,
-            summary,
-            byte_of(&byte),
-        );
-        say_digest(states, votes, network, inboxes, summary);
-        k += 1;
+            input, output, plan, states, votes, network, inboxes, summary, size,
+        )?;
+        say_digest(output, states, votes, network, inboxes, summary)?;
     }
+    Ok(())
 }
 
 // What the tables hold before the first call, where it is given.
-fn read_tables(
+fn read_tables<R: Read>(
+    input: &mut R,
     mode: u8,
     states: &mut [u8],
     votes: &mut [u8],
     network: &mut [u8],
     inboxes: &mut [u8],
     summary: &mut [u8],
-) {
+) -> io::Result<()> {
     if mode % 4 == 0 {
-        return;
+        return Ok(());
     }
-    read_part(states);
-    read_part(votes);
-    read_part(network);
-    read_part(inboxes);
-    read_part(summary);
+    read_part(input, states)?;
+    read_part(input, votes)?;
+    read_part(input, network)?;
+    read_part(input, inboxes)?;
+    read_part(input, summary)?;
+    Ok(())
 }
 
 // Opens the record, where the history says so.
-fn run_open(
+fn run_open<W: Write>(
+    output: &mut W,
     mode: u8,
     plan: Plan,
     states: &mut [u8],
@@ -346,16 +378,18 @@ fn run_open(
     network: &mut [u8],
     inboxes: &mut [u8],
     summary: &mut [u8],
-) {
+) -> io::Result<()> {
     if mode % 4 == 2 {
-        return;
+        return Ok(());
     }
     let judged = opening::open(plan, states, votes, network, inboxes, summary);
-    say_judged(b"open ", judged);
-    say_digest(states, votes, network, inboxes, summary);
+    say_judged(output, b"open ", judged)?;
+    say_digest(output, states, votes, network, inboxes, summary)
 }
 
-fn run(
+fn run<R: Read, W: Write>(
+    input: &mut R,
+    output: &mut W,
     mode: u8,
     plan: Plan,
     states: &mut [u8],
@@ -363,33 +397,39 @@ fn run(
     network: &mut [u8],
     inboxes: &mut [u8],
     summary: &mut [u8],
-) {
-    read_tables(mode, states, votes, network, inboxes, summary);
-    run_open(mode, plan, states, votes, network, inboxes, summary);
-    run_calls(plan, states, votes, network, inboxes, summary);
-    say_tables(mode, states, votes, network, inboxes, summary);
+) -> io::Result<()> {
+    read_tables(input, mode, states, votes, network, inboxes, summary)?;
+    run_open(output, mode, plan, states, votes, network, inboxes, summary)?;
+    run_calls(
+        input, output, plan, states, votes, network, inboxes, summary,
+    )?;
+    say_tables(output, mode, states, votes, network, inboxes, summary)
 }
 
 // Reads how long the tables are, and lends the first bytes of the buffers as these.
-fn run_parts(
+fn run_parts<R: Read, W: Write>(
+    input: &mut R,
+    output: &mut W,
     head: Head,
     states: &mut [u8],
     votes: &mut [u8],
     network: &mut [u8],
     inboxes: &mut [u8],
     summary: &mut [u8],
-) {
-    let states_end = read_end(states);
-    let votes_end = read_end(votes);
-    let network_end = read_end(network);
-    let inboxes_end = read_end(inboxes);
-    let summary_end = read_end(summary);
+) -> io::Result<()> {
+    let states_end = read_end(input, states)?;
+    let votes_end = read_end(input, votes)?;
+    let network_end = read_end(input, network)?;
+    let inboxes_end = read_end(input, inboxes)?;
+    let summary_end = read_end(input, summary)?;
     let states_part = &mut states[..states_end];
     let votes_part = &mut votes[..votes_end];
     let network_part = &mut network[..network_end];
     let inboxes_part = &mut inboxes[..inboxes_end];
     let summary_part = &mut summary[..summary_end];
     run(
+        input,
+        output,
         head.mode,
         head.plan,
         states_part,
@@ -397,33 +437,42 @@ fn run_parts(
         network_part,
         inboxes_part,
         summary_part,
-    );
+    )
 }
 
-fn run_history(head: Head) {
-    let mut states = io::large_buffer();
-    let mut votes = io::large_buffer();
-    let mut network = io::large_buffer();
-    let mut inboxes = io::large_buffer();
-    let mut summary = io::buffer();
+fn run_history<R: Read, W: Write>(input: &mut R, output: &mut W, head: Head) -> io::Result<()> {
+    let mut states = large_buffer();
+    let mut votes = large_buffer();
+    let mut network = large_buffer();
+    let mut inboxes = large_buffer();
+    let mut summary = buffer();
     run_parts(
+        input,
+        output,
         head,
         &mut states,
         &mut votes,
         &mut network,
         &mut inboxes,
         &mut summary,
-    );
+    )
 }
 
-fn main() {
-    let mut k: usize = 0;
-    while k < MAX_HISTORIES {
+// Makes the histories that stand in the input, one after the other.
+fn run_histories<R: Read, W: Write>(input: &mut R, output: &mut W) -> io::Result<()> {
+    for _ in 0..MAX_HISTORIES {
         let mut bytes = [0u8; 6];
-        if io::read_full(STDIN_FILENO, &mut bytes) < 6 {
-            return;
+        if read_full(input, &mut bytes)? < 6 {
+            return Ok(());
         }
-        run_history(head_of(&bytes));
-        k += 1;
+        run_history(input, output, head_of(&bytes))?;
     }
+    Ok(())
+}
+
+fn main(rt: HostRuntime) -> io::Result<()> {
+    let mut input = BufReader::new(rt.alloc(), rt.stdin())?;
+    let mut output = BufWriter::new(rt.alloc(), rt.stdout())?;
+    run_histories(&mut input, &mut output)?;
+    output.flush()
 }

@@ -3,7 +3,7 @@
 --     sent_code, answer_code           the number of a step's answer
 --     HostStep, host_step, host_step_of  a role's step with that number for its answer
 --     packed, are_bytes                 several bytes as one number; whether numbers are bytes
--- Their laws are in Code/Laws.antt. Assumes nothing.
+-- Their laws are in proofs/CodeLaws.antt. Assumes nothing.
 use Rattle.std.specs.Prelude.{ℕ, ◌+◌, ◌*◌, Bool, cond, List, [], ◌∷◌, ltb}
 use Rattle.message.specs.declared.Plan.{Plan}
 use Rattle.message.specs.Outcome.{Outcome, accepted, refused}

@@ -1,4 +1,3 @@
 -- The numbers that the calls for other languages answer.
 --     Code       the number of a step's answer, and of several bytes
---     Theorems   no number stands for two answers
 pub mod Code

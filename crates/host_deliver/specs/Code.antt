@@ -1,6 +1,6 @@
 -- A delivery for other languages: the number of its answer, and N.
 --     HostDelivery, hostDelivery, hostDeliveryOf
--- Its law is in Code/Laws.antt. Assumes nothing.
+-- Its law is in proofs/CodeLaws.antt. Assumes nothing.
 use Rattle.std.specs.Prelude.{ℕ, List}
 use Rattle.deliver.specs.Deliver.{Delivery}
 use Rattle.host_code.specs.Code.{answer_code}

@@ -2,7 +2,7 @@
 --     fields_of, message_of        a message as its map and all five fields, and back; 15 for an unknown map
 --     read_code                    the reader's answer: byte 0 the refusal or 0, bytes 1 to 6 the map and the fields
 --     host_write, written_code    the writer by map and fields; its answer: the eight bytes, or byte 1 the refusal
--- Their laws are in Code/Laws.antt, those of the writer's number in Code/Writing.antt. Assumes nothing.
+-- Their laws are in proofs/CodeLaws.antt, those of the writer's number in proofs/CodeWriting.antt. Assumes nothing.
 use Rattle.std.specs.Prelude.{ℕ, ◌*◌, not, cond, List, [], ◌∷◌, eqb}
 use Rattle.message.specs.declared.Plan.{Plan}
 use Rattle.message.specs.declared.Vote.{Vote}

@@ -2,7 +2,7 @@
 --     HostOpening, host_opening, host_opening_of  opening: 0, or the refusal
 --     HostEvent, host_event, host_event_of        the event call: the number of its answer
 --     ending_number, ending_outcome, ending_code  how an order stands: rows 1, 2 and 3, and the number
--- Their laws are in Code/Laws.antt. Assumes nothing.
+-- Their laws are in proofs/CodeLaws.antt. Assumes nothing.
 use Rattle.std.specs.Prelude.{ℕ, ◌+◌, not, List, eqb, length}
 use Rattle.message.specs.declared.Plan.{Plan}
 use Rattle.message.specs.Outcome.{Outcome, accepted, refused, number_of, refuse_if}

@@ -1,4 +1,3 @@
 -- Opening, the event call and the ending for other languages.
 --     Code       what they answer, as numbers, and the five tables
---     Theorems   what the numbers stand for
 pub mod Code

@@ -1,4 +1,5 @@
--- The proofs that belong to no one function.
+-- Demand 2, role by role: the theorems and their proofs.
+--     Theorems   the theorems
 pub mod Acceptor
 pub mod Call
 pub mod Leader

@@ -1,4 +1,4 @@
--- What the match of an acceptor's step speaks of. The theorems are in Theorems.antt, their proofs in Acceptor/Laws.antt.
+-- What the match of an acceptor's step speaks of. The theorems are in proofs/Theorems.antt, their proofs in proofs/Acceptor/Laws.antt.
 --     Phase1bAction, Phase2bAction     the actions at a plan's constants, on the message in the event's slot
 --     state_of                          the variables of module PaxosCommit, as Q and N hold them
 --     report_of                        the 1b that is sent

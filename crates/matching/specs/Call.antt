@@ -7,7 +7,7 @@
 --     Stores                 a table after a message was stored there: its bytes are kept where the message stood, else they are those of the
 --                            table that holds the message at the end
 --     Sends                  that, and the answer: the first slot where the message stands
--- Its laws are in Call/Laws.antt. Assumes nothing.
+-- Its laws are in proofs/Call/Laws.antt. Assumes nothing.
 use Rattle.std.specs.Prelude.{ℕ, ◌/◌, ◌≤◌, ◌<◌, true, ◌⊎◌, ◌≡◌, length}
 use mathlib.Core.List.{List, [], ◌∷◌, ◌++◌, Memᴰ}
 use Rattle.message.specs.declared.Plan.{Plan}

@@ -1,4 +1,4 @@
--- What the match of a leader's step speaks of. The theorems are in Theorems.antt, their proofs in Leader/Laws.antt.
+-- What the match of a leader's step speaks of. The theorems are in proofs/Theorems.antt, their proofs in proofs/Leader/Laws.antt.
 --     Phase1aAction, Phase2aAction     the actions at a plan's constants; `seen` is what Phase2a's conditions are read from
 --     CommitBy, AbortBy                Decide, by what counts as decided
 --     DecidedIn, DecidedOrDeclinedIn   what is decided by the messages of a set; and what Decide as widened takes for it (document 02, Paper 6)

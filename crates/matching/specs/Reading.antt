@@ -3,7 +3,7 @@
 --     val_of, bal_of, message_of           a message as the source's record: a 1b without a vote has bal -1 and val "none"
 --     set_of                              a list of messages as a set
 --     rm_state_of, a_state_of             W and Q as functions
--- Its laws are in Reading/Laws.antt. Assumes nothing.
+-- Its laws are in proofs/Reading/Laws.antt. Assumes nothing.
 use Rattle.std.specs.Prelude.{ℕ, ◌+◌, ◌<◌, Bool, true, ◌&&◌, cond, ◌≡◌, ltb, eqb, get_or}
 use mathlib.Core.List.{List, Memᴰ}
 use Rattle.message.specs.declared.Plan.{Plan}

@@ -1,4 +1,4 @@
--- What the match of a resource manager's step speaks of. The theorems are in Theorems.antt, their proofs in Rm/Laws.antt.
+-- What the match of a resource manager's step speaks of. The theorems are in proofs/Theorems.antt, their proofs in proofs/Rm/Laws.antt.
 --     RMPrepare, RMChooseToAbort, RMRcvCommitMsg, RMRcvAbortMsg     the actions at a plan's constants
 --     state_of                  the variables of module PaxosCommit, as W and N hold them
 --     is_decision, Contradicts, Disabled, Full    the messages that a resource manager takes; rows 11, 12 and 13

@@ -2,7 +2,7 @@
 -- numbers, an action a relation between the state before it and after it, and a behaviour a state for each time. What is written
 -- otherwise than on the page: Ballot is the set of all numbers; a state of a resource manager is its number; CHOOSE is "some"; Phase2a is
 -- first given over a set `seen` of messages, from which a leader reads its conditions, and Decide over what counts as decided: read
--- from msgs they are the source's; Phase1b and Phase2b are first given for one message. Its theorems are in Theorems.antt.
+-- from msgs they are the source's; Phase1b and Phase2b are first given for one message. Its theorems are in proofs/Theorems.antt.
 --     Bal, Maximum                     Ballot ∪ {-1}, and the maximum of a set of them
 --     Assume                           ASSUME; of it the theorems use MajoritiesMeet alone
 --     Message, IsMessage               the fields of each type of message, and their ranges

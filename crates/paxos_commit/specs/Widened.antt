@@ -1,7 +1,7 @@
 -- Module PaxosCommit with Decide widened (document 02, Paper 6). Section 4.2 of document 001: a resource manager that has proposed aborted at
 -- ballot 0 has made its instance one that "can choose only Aborted", so Paxos Commit "can short-circuit and inform all processes that the
 -- transaction has aborted"; this "is possible only for phase 2a messages with ballot number 0". PaxosCommit.antt is the module as printed, and
--- here is what is otherwise. Which of its theorems stand is in Theorems.antt.
+-- here is what is otherwise. Which of its theorems stand is in proofs/Theorems.antt.
 --     Declined              a resource manager has proposed aborted at ballot 0
 --     DecidedOrDeclined     what a leader may announce: what is decided, and aborted where the resource manager has declined
 --     WidenedDecide         Decide by that

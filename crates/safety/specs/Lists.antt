@@ -6,7 +6,7 @@
 --     Each, AfterEach          a claim about each of these
 --     Safe                     the three claims of demand 3
 --     answers, tables_after    what they answer, and the tables that they leave
--- Their laws are in Lists/Laws.antt, the theorems in Theorems.antt. Assumes nothing.
+-- Their laws are in proofs/Lists/Laws.antt, the theorems in proofs/Theorems.antt. Assumes nothing.
 use Rattle.std.specs.Prelude.{ℕ, ◌⊎◌, ◌≡◌, length}
 use mathlib.Core.List.{List, [], ◌∷◌, ◌++◌, map, Memᴰ}
 use Rattle.message.specs.declared.Plan.{Plan}

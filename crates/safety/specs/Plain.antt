@@ -4,7 +4,7 @@
 --     plain_judged, plain_run       the list call: rows 1 to 6, then 19
 --     plain_counted, plain_made     the events that a list of calls comes to, and the single calls
 --     plain_answers, plain_after    what they answer, and the tables that they leave
--- Their laws are in Plain/Laws.antt, the comparison in Standing.antt. Assumes nothing.
+-- Their laws are in proofs/Plain/Laws.antt, the comparison in proofs/Standing.antt. Assumes nothing.
 use Rattle.std.specs.Prelude.{ℕ, not, List, [], ◌∷◌, ◌++◌, map}
 use Rattle.message.specs.declared.Plan.{Plan}
 use Rattle.message.specs.Outcome.{Outcome, accepted, and_then, refuse_if}
