@@ -100,9 +100,13 @@ fn say_field<W: Write>(output: &mut W, field: u8) -> io::Result<()> {
     write!(output, " {field}")
 }
 
+fn say_hex<W: Write>(output: &mut W, byte: u8) -> io::Result<()> {
+    write!(output, "{byte:02x}")
+}
+
 fn say_bytes<W: Write>(output: &mut W, bytes: &[u8]) -> io::Result<()> {
     for byte in bytes {
-        write!(output, "{byte:02x}")?;
+        say_hex(output, *byte)?;
     }
     Ok(())
 }

@@ -106,8 +106,10 @@ fn fold_byte(sum: u32, byte: u8) -> u32 {
 
 fn fold(bytes: &[u8], after: u32) -> u32 {
     let mut sum = after;
-    for byte in bytes.iter().rev() {
-        sum = fold_byte(sum, *byte);
+    let mut i = bytes.len();
+    while 0 < i {
+        i -= 1;
+        sum = fold_byte(sum, bytes[i]);
     }
     sum
 }
@@ -164,9 +166,13 @@ fn used_end(table: &[u8]) -> usize
     0
 }
 
+fn say_hex<W: Write>(output: &mut W, byte: u8) -> io::Result<()> {
+    write!(output, "{byte:02x}")
+}
+
 fn say_bytes<W: Write>(output: &mut W, bytes: &[u8]) -> io::Result<()> {
     for byte in bytes {
-        write!(output, "{byte:02x}")?;
+        say_hex(output, *byte)?;
     }
     Ok(())
 }
@@ -293,6 +299,24 @@ fn run_list<R: Read, W: Write>(
     say_run(output, judged, answers)
 }
 
+// A list call, on buffers of its own.
+fn run_large<R: Read, W: Write>(
+    input: &mut R,
+    output: &mut W,
+    plan: Plan,
+    states: &mut [u8],
+    votes: &mut [u8],
+    network: &mut [u8],
+    inboxes: &mut [u8],
+    summary: &mut [u8],
+) -> io::Result<()> {
+    let mut large = large_buffer();
+    let mut lent = lent_answers();
+    run_list(
+        input, output, plan, states, votes, network, inboxes, summary, &mut large, &mut lent,
+    )
+}
+
 // Makes the call that begins with the byte.
 fn run_call<R: Read, W: Write>(
     input: &mut R,
@@ -306,13 +330,11 @@ fn run_call<R: Read, W: Write>(
     size: u8,
 ) -> io::Result<()> {
     if size == LIST {
-        let mut large = large_buffer();
-        let mut lent = lent_answers();
-        return run_list(
-            input, output, plan, states, votes, network, inboxes, summary, &mut large, &mut lent,
+        return run_large(
+            input, output, plan, states, votes, network, inboxes, summary,
         );
     }
-    let mut event = buffer();
+    let mut event = [0u8; 256];
     run_event(
         input, output, plan, states, votes, network, inboxes, summary, &mut event, size,
     )

@@ -31,6 +31,7 @@ use console::Input;
 use message::{Message, Plan, Read, SLOT_SIZE, Vote};
 use rehearsal_input::{MAX_INPUT, PlanRead};
 use slots::MAX_SLOTS;
+use std::fmt::InlineText;
 
 // Who an event is of, and what it tries, by its kind; where it takes a slot, that is said next.
 const ACTORS: [u8; 82] =
@@ -71,9 +72,8 @@ fn say_words(text: Text, words: &[u8]) -> Text {
 }
 
 fn say_number(text: Text, number: u64) -> Text {
-    let mut digits = [0u8; 20];
-    let count = io::decimal(number, &mut digits);
-    say_words(text, &digits[..count])
+    let digits = InlineText::<20>::of(number);
+    say_words(text, digits.as_str().as_bytes())
 }
 
 // A byte of a phrase, where the phrase is the chosen one.
@@ -99,12 +99,9 @@ fn ends(byte: u8) -> usize
 fn say(text: Text, phrases: &[u8], which: usize, bytes: &[u8]) -> Text {
     let mut text = text;
     let mut phrase: usize = 0;
-    let mut i: usize = 0;
-    while i < phrases.len() {
-        let byte = phrases[i];
-        text = say_byte(text, phrase == which, byte, bytes);
-        phrase += ends(byte);
-        i += 1;
+    for byte in phrases {
+        text = say_byte(text, phrase == which, *byte, bytes);
+        phrase += ends(*byte);
     }
     text
 }
@@ -174,18 +171,15 @@ fn say_slot(text: Text, plan: Plan, network: &[u8], slot: usize) -> Text {
 }
 
 fn say_hex(text: Text, byte: u8) -> Text {
-    let mut digits = [0u8; 16];
-    let count = io::hex(byte as u64, 2, &mut digits);
+    let digits = InlineText::<2>::of(format_args!("{byte:02x}"));
     let text = say_words(text, b" ");
-    say_words(text, &digits[..count])
+    say_words(text, digits.as_str().as_bytes())
 }
 
 fn say_bytes(text: Text, bytes: &[u8]) -> Text {
     let mut text = say_words(text, b"bytes");
-    let mut i: usize = 0;
-    while i < bytes.len() {
-        text = say_hex(text, bytes[i]);
-        i += 1;
+    for byte in bytes {
+        text = say_hex(text, *byte);
     }
     text
 }
@@ -271,10 +265,8 @@ fn say_state(text: Text, state: u8) -> Text {
 
 fn say_row(text: Text, states: &[u8]) -> Text {
     let mut text = say_words(text, b"weights:");
-    let mut i: usize = 0;
-    while i < states.len() {
-        text = say_state(text, states[i]);
-        i += 1;
+    for state in states {
+        text = say_state(text, *state);
     }
     text
 }
@@ -302,17 +294,18 @@ fn say_ending(states: &[u8]) -> Text {
 }
 
 // Writes a text, unless one before could not be written: whether all is written.
-fn write(written: bool, text: Text) -> bool {
+fn write(rt: &HostRuntime, written: bool, text: Text) -> bool {
     if !written {
         return false;
     }
     let bytes = text.bytes;
     let end = text.end;
-    end <= console::print(&bytes, end)
+    end <= console::print(&mut rt.stdout(), &bytes, end)
 }
 
 // Makes each event, with its number from 1 on, and writes what is said of it: whether all is written.
 fn tell_events(
+    rt: &HostRuntime,
     plan: Plan,
     states: &mut [u8],
     votes: &mut [u8],
@@ -323,16 +316,28 @@ fn tell_events(
 ) -> bool {
     let count = rehearsal_input::event_count(events);
     let mut written = true;
-    let mut made: usize = 0;
-    while made < count {
+    for made in 0..count {
         let event = rehearsal_input::event_at(events, made);
-        made += 1;
-        let tried = say_event(made, plan, network, event);
+        let tried = say_event(made + 1, plan, network, event);
         let answer = record::step(plan, states, votes, network, inboxes, summary, event);
         let text = say_outcome(tried, plan, network, event, answer, states);
-        written = write(written, text);
+        written = write(rt, written, text);
     }
     written
+}
+
+// 4,096 zeros.
+fn buffer() -> [u8; 4096]
+    ensures { 4096 ≡ length result }
+{
+    [0; 4096]
+}
+
+// 65,536 zeros.
+fn large_buffer() -> [u8; 65536]
+    ensures { 65536 ≡ length result }
+{
+    [0; 65536]
 }
 
 // The bytes of Q: three for each instance and acceptor.
@@ -347,12 +352,12 @@ fn summary_length(rms: u8, leaders: u8) -> usize {
 
 // Opens a record, makes the events, and writes how the order stands: whether all is written. The tables are parts of buffers that are long
 // enough for every plan in range, so that opening refuses none.
-fn tell(plan: Plan, events: &[u8]) -> bool {
-    let mut states = io::buffer();
-    let mut votes = io::buffer();
-    let mut network = io::large_buffer();
-    let mut inboxes = io::large_buffer();
-    let mut summary = io::buffer();
+fn tell(rt: &HostRuntime, plan: Plan, events: &[u8]) -> bool {
+    let mut states = buffer();
+    let mut votes = buffer();
+    let mut network = large_buffer();
+    let mut inboxes = large_buffer();
+    let mut summary = buffer();
     let states_end = plan.rms as usize;
     let votes_end = least(votes_length(plan.rms, plan.acceptors), 4096);
     let network_end = SLOT_SIZE * MAX_SLOTS;
@@ -372,6 +377,7 @@ fn tell(plan: Plan, events: &[u8]) -> bool {
         summary_part,
     );
     let written = tell_events(
+        rt,
         plan,
         states_part,
         votes_part,
@@ -380,24 +386,27 @@ fn tell(plan: Plan, events: &[u8]) -> bool {
         summary_part,
         events,
     );
-    write(written, say_ending(states_part))
+    write(rt, written, say_ending(states_part))
 }
 
 // Tells the history of an input, or the refusal of its plan: whether all is written.
-fn narrate(input: &[u8]) -> bool {
+fn narrate(rt: &HostRuntime, input: &[u8]) -> bool {
     let begun = rehearsal_input::plan_in(input);
     match begun {
-        PlanRead::Given(plan) => tell(plan, rehearsal_input::events_in(input)),
+        PlanRead::Given(plan) => tell(rt, plan, rehearsal_input::events_in(input)),
         PlanRead::Refused(number) => {
             let text = say_refusal(no_text(), number);
-            write(true, say_words(text, b"\n"))
+            write(rt, true, say_words(text, b"\n"))
         }
     }
 }
 
-fn print(input: &[u8]) {
-    if !narrate(input) {
-        console::complain(b"narration: standard output can't be written\n");
+fn print(rt: &HostRuntime, input: &[u8]) {
+    if !narrate(rt, input) {
+        console::complain(
+            &mut rt.stderr(),
+            b"narration: standard output can't be written\n",
+        );
     }
 }
 
@@ -407,13 +416,16 @@ fn input_buffer() -> [u8; MAX_INPUT]
     [0; MAX_INPUT]
 }
 
-fn main() {
+fn main(rt: HostRuntime) {
     let mut buffer = input_buffer();
-    let input = console::read_input(&mut buffer);
+    let input = console::read_input(&mut rt.stdin(), &mut buffer);
     match input {
-        Input::Bytes(got) => print(&buffer[..got]),
+        Input::Bytes(got) => print(&rt, &buffer[..got]),
         Input::Failed => {
-            console::complain(b"narration: standard input can't be read\n");
+            console::complain(
+                &mut rt.stderr(),
+                b"narration: standard input can't be read\n",
+            );
         }
     }
 }

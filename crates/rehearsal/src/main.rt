@@ -21,21 +21,27 @@ fn output_buffer() -> [u8; MAX_OUTPUT]
     [0; MAX_OUTPUT]
 }
 
-fn print(input: &[u8]) {
+fn print(rt: &HostRuntime, input: &[u8]) {
     let mut output = output_buffer();
     let count = rehearsing::rehearse(input, &mut output);
-    if console::print(&output, count) < count {
-        console::complain(b"rehearsal: standard output can't be written\n");
+    if console::print(&mut rt.stdout(), &output, count) < count {
+        console::complain(
+            &mut rt.stderr(),
+            b"rehearsal: standard output can't be written\n",
+        );
     }
 }
 
-fn main() {
+fn main(rt: HostRuntime) {
     let mut buffer = input_buffer();
-    let input = console::read_input(&mut buffer);
+    let input = console::read_input(&mut rt.stdin(), &mut buffer);
     match input {
-        Input::Bytes(got) => print(&buffer[..got]),
+        Input::Bytes(got) => print(&rt, &buffer[..got]),
         Input::Failed => {
-            console::complain(b"rehearsal: standard input can't be read\n");
+            console::complain(
+                &mut rt.stderr(),
+                b"rehearsal: standard input can't be read\n",
+            );
         }
     }
 }
