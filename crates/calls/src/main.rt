@@ -20,7 +20,7 @@ ghost use Rattle.std.specs.Prelude.{◌≡◌, ◌≤◌, length, IfOk};
 use change::{Answer, Sent};
 use message::{Message, Plan, Read, Vote};
 use std::io;
-use std::io::{BufReader, BufWriter, Write};
+use std::io::Write;
 
 const MAX_CALLS: usize = 65536;
 
@@ -376,8 +376,5 @@ fn read_calls<R: io::Read, W: Write>(input: &mut R, output: &mut W) -> io::Resul
 }
 
 fn main(rt: HostRuntime) -> io::Result<()> {
-    let mut input = BufReader::new(rt.alloc(), rt.stdin())?;
-    let mut output = BufWriter::new(rt.alloc(), rt.stdout())?;
-    read_calls(&mut input, &mut output)?;
-    output.flush()
+    read_calls(&mut rt.stdin(), &mut rt.stdout())
 }

@@ -25,7 +25,7 @@ ghost use Rattle.std.specs.Prelude.{◌≡◌, ◌≤◌, min, length, IfOk};
 use change::{Answer, Judged, Sent};
 use message::Plan;
 use std::io;
-use std::io::{BufReader, BufWriter, Read, Write};
+use std::io::{Read, Write};
 
 const MAX_HISTORIES: usize = 65536;
 
@@ -493,8 +493,5 @@ fn run_histories<R: Read, W: Write>(input: &mut R, output: &mut W) -> io::Result
 }
 
 fn main(rt: HostRuntime) -> io::Result<()> {
-    let mut input = BufReader::new(rt.alloc(), rt.stdin())?;
-    let mut output = BufWriter::new(rt.alloc(), rt.stdout())?;
-    run_histories(&mut input, &mut output)?;
-    output.flush()
+    run_histories(&mut rt.stdin(), &mut rt.stdout())
 }
