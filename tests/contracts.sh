@@ -18,10 +18,18 @@ set -eu
 export LC_ALL=C
 rules=$(cd "$(dirname "$0")" && pwd)/contracts
 
+# What stands below folders, but for what the toolchain makes, crates/NAME/out.
+below() {
+    at=$1
+    shift
+    # shellcheck disable=SC2086
+    find $at -regex 'crates/[^/]*/out' -prune -o "$@" -print
+}
+
 # What stands below crates/ and tests/ and is no folder and no plain file with a plain name, and crates that are library and program at once.
 not_plain() {
-    find crates crates.txt tests ! -type d ! -type f | sed 's/$/: is no plain file/'
-    find crates tests | { grep -v '^[A-Za-z0-9_./+-]*$' || :; } | sed 's/$/: is no plain name/'
+    below 'crates crates.txt tests' ! -type d ! -type f | sed 's/$/: is no plain file/'
+    below 'crates tests' -true | { grep -v '^[A-Za-z0-9_./+-]*$' || :; } | sed 's/$/: is no plain name/'
     for crate in crates/*/; do
         if [ -e "${crate}src/lib.rt" ] && [ -e "${crate}src/main.rt" ]; then echo "$crate: has src/lib.rt and src/main.rt"; fi
     done
@@ -39,9 +47,9 @@ sources() {
     # shellcheck disable=SC2046
     awk -v programs="$programs" -v header=hosts/c/paxos_commit.h \
         -f "$rules/words.awk" -f "$rules/names.awk" -f "$rules/claims.awk" -f "$rules/functions.awk" -f "$rules/exports.awk" \
-        $(find crates -name '*.rt' -o -name '*.antt' | sort) </dev/null || bad=1
+        $(below crates '(' -name '*.rt' -o -name '*.antt' ')' | sort) </dev/null || bad=1
     crates=$(sed 's/#.*//' crates.txt | grep -c :)
-    edits=$(find crates -path '*/must-fail/*.edit' | wc -l)
+    edits=$(below crates -path '*/must-fail/*.edit' | wc -l)
     stated=$(cat tests/passed)
     if [ $((crates + edits)) -lt "$stated" ]; then
         echo "too few: crates.txt lists $crates crates and there are $((edits)) must-fail edits, and tests/passed says $stated"

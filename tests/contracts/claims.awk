@@ -70,7 +70,7 @@ function clause_of(k,    from, end, name, j, i) {
 }
 function definition_ends(name,    words) {
     # what answers the prover's goals is cited by no statement
-    if (file ~ /\/proofs\/.*\/(Invariants|Answers)[.]antt$/) { delete clauses[name]; delete says[name]; delete uses[name]; delete unused[name]; return }
+    if (file ~ /\/proofs\/([a-z_+][a-z_0-9+]*\/)+(Invariants|Answers)[.]antt$/) { delete clauses[name]; delete says[name]; delete uses[name]; delete unused[name]; return }
     if (!(name in says)) fault(line[name], "`" name "` is `Unit` whatever it is given")
     if (clauses[name] == 1 && name in unused) words = "does not use `" unused[name] "`"
     else if (!(name in uses)) words = "is the same whatever it is given"

@@ -82,7 +82,7 @@ function rattle_word(text) {
 }
 # The `requires` or `ensures` whose bracket stands at k, or 0. Between them there may be a `*` and a name.
 function clause_word_before(k) {
-    if (token[--k] ~ /^[a-z_0-9]+$/ && token[k - 1] ~ /^(requires|ensures|[*])$/) k--
+    if (token[--k] ~ /^[A-Za-z_0-9]+$/ && token[k - 1] ~ /^(requires|ensures|[*])$/) k--
     if (token[k] == "*") k--
     return token[k] ~ /^(requires|ensures)$/ ? k : 0
 }
