@@ -1,6 +1,5 @@
 -- Each hypothesis of `Genuine` is needed: for each a short list of happenings from fresh hosts, genuine but for one happening which fails that
--- hypothesis alone, after which weight 0 is aborted and weight 1 committed. An order of two weights, one acceptor and one leader.
---     Broken                        such a list: what came before the one happening was genuine, so is what comes after it, and the row is broken
+-- hypothesis alone, after which weight 0 is aborted and weight 1 committed (`Broken` in specs/Needed.antt).
 --     only_one_fails                in such a list that one happening is not genuine
 --     own_number_needed             the host of weight 1 makes an event with the number 0
 --     not_forged_needed             a Commit that nobody sent comes to weight 1
@@ -12,7 +11,6 @@
 use Rattle.std.specs.Prelude.{ℕ, true, List, [], ◌∷◌, ◌++◌, ◌≡◌, refl, replicate}
 use Rattle.std.proofs.Common.{inl, sym, arith}
 use Rattle.std.specs.Int.Count.{ones}
-use Rattle.message.specs.declared.Plan.{Plan}
 use Rattle.message.specs.Outcome.{and_then, refuse_if}
 use Rattle.message.specs.Plan.{is_plan, is_count}
 use Rattle.message.specs.Form.{is_value, is_vote, is_in_range, bytes_of, bytes_of1b, message_length, slot_of, is_known, map_length, fields_message, decode, has_order}
@@ -33,43 +31,11 @@ use Rattle.summary.specs.Summary.{marked}
 use Rattle.leader.specs.Leader.{owns, leader_judged, receipt_store, receipt, phase1a, phase2a_message, keep_own, send_both, phase2a, send_only, decide_send}
 use Rattle.leader.specs.Leader.{leader_kind, leader_verdict_by, is_summary, stands, leader_step}
 use Rattle.deliver.specs.Deliver.{deliver_judged, deliver_step}
-use Rattle.apart.specs.Hosts.{Role, rm, acceptor, leader, System, Happening, call, delivery, restart, NotForged, TableKept, Genuine, row}
-use Rattle.apart.specs.Hosts.{zero_hosts, system_after, AllGenuine}
+use Rattle.apart.specs.Hosts.{Role, rm, acceptor, leader, Happening, call, delivery, restart, NotForged, TableKept, Genuine, row}
+use Rattle.apart.specs.Needed.{order, tables, summaries, networks, fresh, end, Broken}
 use Rattle.apart.proofs.Hosts.Lists.{zeros_fresh, genuine_around}
 use Rattle.apart.proofs.Hosts.Tests.{are_sent, are_genuine, genuine_of_test, sents_of_test}
 use Rattle.apart.proofs.Theorems.{hosts_consistent}
-
-abbrev pub order : Plan
-order = record { rms = 2; acceptors = 1; leaders = 1; order = 0x0102 }
-
-abbrev tables : Role → ℕ → ℕ
-tables rm k = 2
-tables acceptor k = 6
-tables leader k = 40
-
-abbrev summaries : Role → ℕ → ℕ
-summaries rm k = 0
-summaries acceptor k = 0
-summaries leader k = 2
-
-abbrev networks : Role → ℕ → ℕ
-networks rm k = 24
-networks acceptor k = 48
-networks leader k = 64
-
-abbrev pub fresh : System
-fresh = zero_hosts tables summaries networks
-
--- the system that a list leaves
-abbrev pub end : List Happening → System
-end = system_after order fresh
-
--- genuine but for the one happening in the middle, and the row is broken
-pub record Broken (before : List Happening) (one : Happening) (rest : List Happening) : Type 0 where
-  pub genuine_before : AllGenuine order fresh before
-  pub genuine_rest : AllGenuine order (end (before ++ (one ∷ []))) rest
-  pub aborted : row (end (before ++ (one ∷ rest))) 0 ≡ 3
-  pub committed : row (end (before ++ (one ∷ rest))) 1 ≡ 2
 
 -- host k makes an event with its own number
 abbrev pub act : Role → ℕ → ℕ → ℕ → ℕ → Happening

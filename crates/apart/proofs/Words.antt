@@ -6,7 +6,7 @@
 --     call_sends, call_quiet, call_refused, delivery_sends, restart_sends     what is put on the wire
 --     genuine_call, genuine_delivery, genuine_restart     what is asked
 --     system_after_lem, answers_after, genuine_after, after_each_split  each happening of a list finds what the one before left
---     OneStep, SafeInWords    one step on the weights' bytes; the three claims of demand 3
+--     words_mean, safe_words  specs/Words.antt written out; what is claimed there follows from `Safe`
 --     hosts_safe_words        so it is after each happening of every list
 --     hosts_safe_each         so it is of every genuine happening after every list of genuine ones
 -- Assumes nothing.
@@ -30,6 +30,7 @@ use Rattle.record.specs.Record.{zeroed}
 use Rattle.deliver.specs.Deliver.{deliver_step}
 use Rattle.apart.specs.Hosts.{Role, rm, acceptor, leader, Host, System, Happening, call, delivery, restart, left_by, called, Made, made, SummaryKept}
 use Rattle.apart.specs.Hosts.{Genuine, row, Fresh, system_after, answers, AllGenuine, Safe, AfterEach}
+use Rattle.apart.specs.Words.{byte, SafeInWords}
 use Rattle.apart.proofs.Hosts.Lists as Lists
 use Rattle.apart.proofs.Hosts.Moved as Moved
 use Rattle.apart.proofs.Theorems.{hosts_safe}
@@ -175,26 +176,6 @@ module _ (p : Plan) (s : System) where
       → AfterEach p P s (hs ++ (h ∷ more)) → AllGenuine p s hs → Genuine p (system_after p s hs) h
       → P (system_after p s hs) (made p (system_after p s hs) h)
   after_each_split P hs h more = Lists.after_split p P s hs h more
-
--- one step on the bytes of n weights: one changes, from 0 to 1; from 1 to 2 if every weight is 1 or 2; from 0 or 1 to 3 if none is 2
-abbrev pub OneStep : ℕ → (ℕ → ℕ) → (ℕ → ℕ) → Type 0
-OneStep n W W' =
-    (i : ℕ) × (i < n)
-    × ((j : ℕ) → (j ≡ i → ⊥) → W' j ≡ W j)
-    × (((W i ≡ 0) × (W' i ≡ 1))
-    ⊎ (((W i ≡ 1) × (W' i ≡ 2) × ((j : ℕ) → j < n → (W j ≡ 1) ⊎ (W j ≡ 2)))
-    ⊎ (((W i ≡ 0) ⊎ (W i ≡ 1)) × (W' i ≡ 3) × ((j : ℕ) → j < n → W j ≡ 2 → ⊥))))
-
--- byte i of the W of weight i
-abbrev pub byte : System → ℕ → ℕ
-byte s i = get_or (s.hosts rm i).table i 0
-
--- the bytes are as before, or one such step further; no weight is 2 while another is 3; the answer is not 11
-abbrev pub SafeInWords : Plan → System → Made → Type 0
-SafeInWords p s r =
-    (((i : ℕ) → byte r.system i ≡ byte s i) ⊎ OneStep p.rms (byte s) (byte r.system))
-    × ((i j : ℕ) → i < p.rms → j < p.rms → byte r.system i ≡ 2 → byte r.system j ≡ 3 → ⊥)
-    × (r.answer ≡ refused 11 → ⊥)
 
 -- written out
 pub words_mean : (p : Plan) (s : System) (r : Made) → SafeInWords p s r

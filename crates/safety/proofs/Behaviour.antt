@@ -1,8 +1,6 @@
 -- The record implements module PaxosCommit as published, Decide widened for kind 8 (document 02, Paper 6), every condition read from msgs, which is N:
 -- each list of calls from a fresh record is a behaviour of WidenedSpec, so the theorems of document 001 (paxos_commit's Theorems.antt) hold of it.
---     Published              one event call: an accepted one is an action of PCNext, of kind 8 one of WidenedNext, a receipt apart; a receipt and a
---                            refused call leave W, Q and N
---     record_published       every event call after every list of calls
+--     record_published       every event call after every list of calls is as specs/Behaviour.antt says
 --     action_published       and every step that `Action` allows an accepted event: demand 2's actions are those of the module
 --     tables_at, state_at    the tables, and the state, at time n: what the first n single calls of a list leave
 --     record_behaviour       it is a behaviour of WidenedSpec
@@ -29,6 +27,7 @@ use Rattle.matching.specs.Call.{Accepted}
 use Rattle.matching.specs.Leader.{DecidedIn}
 use Rattle.conformance.specs.Record.{record_state}
 use Rattle.conformance.specs.Action.{Action}
+use Rattle.safety.specs.Behaviour.{Published}
 use Rattle.safety.specs.Grounds.{sent_in, Unchanged}
 use Rattle.safety.proofs.Grounds.Published.{NextByKind, next_widened, next_published}
 use Rattle.safety.proofs.Grounds.Steps.{Used, used_event, published_event, action_event, kept_event}
@@ -36,18 +35,6 @@ use Rattle.batch.specs.Run.{single_calls, tables_left}
 use Rattle.batch.proofs.RunLaws.{calls_keep}
 use Rattle.safety.specs.Lists.{Fresh, Call, counted, made, tables_after}
 use Rattle.safety.proofs.Theorems.{used_fresh, fresh_initial}
-
--- the event call e on the tables t, as module PaxosCommit sees it
-pub record Published (p : Plan) (t : Tables) (e : List ℕ) : Type 0 where
-  -- accepted and no receipt, it is an action of the widened module
-  pub acts : (sent : Sent) → (record_step p t e).answer ≡ accepted sent → (kind_of e ≡ 4 → ⊥)
-      → WidenedNext (is_rm p) (is_acceptor p) (is_majority_set p) (record_state p t) (record_state p (record_step p t e).tables)
-  -- and of the module as printed, if its kind is not 8
-  pub as_printed : (sent : Sent) → (record_step p t e).answer ≡ accepted sent → (kind_of e ≡ 4 → ⊥) → (kind_of e ≡ 8 → ⊥)
-      → PCNext (is_rm p) (is_acceptor p) (is_majority_set p) (record_state p t) (record_state p (record_step p t e).tables)
-  -- W, Q and N keep their bytes
-  pub receipt : kind_of e ≡ 4 → Unchanged t (record_step p t e).tables
-  pub refusal : (k : ℕ) → (record_step p t e).answer ≡ refused k → Unchanged t (record_step p t e).tables
 
 -- the tables at time n: what the first n single calls leave, and after the last call what that left; and the state that they hold
 abbrev pub tables_at : Plan → Tables → List Call → ℕ → Tables

@@ -1,2 +1,3 @@
 -- Laws of Plain.
 pub mod Laws
+pub mod Same

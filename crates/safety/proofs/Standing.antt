@@ -14,7 +14,7 @@ use Rattle.std.specs.Prelude.{ℕ, ◌+◌, ◌-◌, ◌*◌, ◌<◌, true, ◌
 use mathlib.Core.List.{List, [], ◌∷◌, ◌++◌, map}
 use Rattle.std.proofs.Common.{inl, inr, ◌∙◌}
 use Rattle.std.proofs.Math.Path.{sym, ap}
-use Rattle.std.proofs.Math.ListN.{get_or, replicate}
+use Rattle.std.proofs.Math.ListN.{get_or}
 use Rattle.std.proofs.Math.Seq.{get_or-drop}
 use Rattle.message.specs.declared.Plan.{Plan}
 use Rattle.message.specs.declared.Message.{Message}
@@ -23,9 +23,9 @@ use Rattle.slots.specs.Table.{messages}
 use Rattle.slots.proofs.Table.Holds.{all_in_range, holds_judged}
 use Rattle.quorum.specs.Mask.{has_bit}
 use Rattle.summary.specs.Summary.{decided_or_declined, standing}
-use Rattle.summary.specs.Summary.Laws.{summary_length, is_value_lem, zeros_sound}
+use Rattle.summary.specs.Summary.Laws.{summary_length, is_value_lem}
 use Rattle.summary.specs.Summary.Standing.{says_zeros, stands_says}
-use Rattle.leader.specs.Leader.{is_summary, stands}
+use Rattle.leader.specs.Leader.{stands}
 use Rattle.record.specs.Record.{Tables, with_summary, inbox_of, zeroed, are_lengths, record_judged, RecordStep, record_open, plain_step}
 use Rattle.record.specs.Record.Plain.{plain_with}
 use Rattle.record.specs.Record.Laws.{inbox_whole}
@@ -35,16 +35,16 @@ use Rattle.paxos_commit.proofs.Words.{announced_words}
 use Rattle.matching.specs.Reading.{is_rm, is_acceptor, is_majority_set, val_of}
 use Rattle.matching.specs.Leader.{DecidedIn, DecidedOrDeclinedIn}
 use Rattle.matching.proofs.Leader.Declined.{reflects_inbox}
-use Rattle.batch.specs.Run.{events_of, tables_left, numbers_of, Run, record_run}
+use Rattle.batch.specs.Run.{events_of, tables_left, numbers_of, record_run}
 use Rattle.batch.proofs.RunLaws.{calls_keep}
-use Rattle.safety.specs.Lists.{Fresh, Call, event, run, counted_for, counted, made, answers, tables_after}
+use Rattle.safety.specs.Lists.{Fresh, Call, event, run, counted_for, counted, answers, tables_after}
 use Rattle.safety.specs.Grounds.{seen_by}
 use Rattle.safety.proofs.Grounds.Zeros.{get_d_zeros}
-use Rattle.safety.proofs.Grounds.Marks.{unheard_zeros, standing_zeros}
+use Rattle.safety.proofs.Grounds.Marks.{unheard_zeros}
 use Rattle.safety.proofs.Grounds.Steps.{Used, used_event}
 use Rattle.safety.proofs.Theorems.{used_fresh, opening_fresh, opening_lengths}
 use Rattle.safety.specs.Plain.{plain_calls, plain_judged, plain_run, plain_counted, plain_made, plain_answers, plain_after}
-use Rattle.safety.proofs.Plain.Laws.{Marked, marked_events, left_beside, answers_beside, run_same, made_same}
+use Rattle.safety.proofs.Plain.Same as Same
 
 -- one leader's bytes on a record that was opened and used
 module _ (p : Plan) (t : Tables) (l : ℕ) (member : l < p.leaders) where
@@ -98,29 +98,14 @@ module _ (p : Plan) (t : Tables) (fresh : Fresh t) (calls : List Call) where
       ((λ is. one.0 (forth is), λ d. back (one.1 d)), (λ is. two.0 (there is), λ d. again (two.1 d)))
 
   module _ (whole : length t.summary ≡ p.rms * p.leaders) where
-    right : is_summary (p.rms * p.leaders) t.summary ≡ true
-    unfolding zeroed
-    right = ap (is_summary (p.rms * p.leaders)) (fresh.4 ∙ ap (λ (n : ℕ). replicate n 0) whole) ∙ zeros_sound (p.rms * p.leaders)
-
-    marked : Marked p t
-    marked = (used_fresh p t fresh, standing_zeros p t right fresh.3 fresh.4)
-
     pub same_answers : (answers p t calls ≡ plain_answers p t calls) × (plain_after p t calls ≡ with_summary (tables_after p t calls) t.summary)
-    same_answers =
-        let same = made_same p t.summary t marked calls in (
-          sym (ap (map (λ (r : RecordStep). r.answer)) same ∙ answers_beside t.summary (made p t calls)),
-          ap (tables_left t) same ∙ left_beside t.summary t (made p t calls),
-        )
+    same_answers = Same.same_answers p t fresh calls whole
 
     -- a list call after them: its own answer, and the bytes that it writes or keeps
     pub same_runs : (events given : List ℕ)
         → ((record_run p (tables_after p t calls) events given).answer ≡ (plain_run p (plain_after p t calls) events given).answer)
         × ((record_run p (tables_after p t calls) events given).answers ≡ (plain_run p (plain_after p t calls) events given).answers)
-    same_runs events given =
-        let same =
-        ap (λ (u : Tables). plain_run p u events given) same_answers.1
-        ∙ run_same p t.summary (tables_after p t calls) (marked_events p t marked (counted p t calls)) events given in
-        (sym (ap (λ (r : Run). r.answer) same), sym (ap (λ (r : Run). r.answers) same))
+    same_runs = Same.same_runs p t fresh calls whole
 
 -- whatever the tables held before
 pub same_opened : (p : Plan) (t : Tables) → (record_open p t).answer ≡ accepted tt → (calls : List Call)
@@ -128,7 +113,7 @@ pub same_opened : (p : Plan) (t : Tables) → (record_open p t).answer ≡ accep
     × (plain_after p (record_open p t).tables calls ≡ with_summary (tables_after p (record_open p t).tables calls) (record_open p t).tables.summary)
 same_opened p t is calls =
     let sizes = opening_lengths p t is in
-    same_answers p (record_open p t).tables (opening_fresh p t is) calls (sizes.4 ∙ sizes.5)
+    Same.same_answers p (record_open p t).tables (opening_fresh p t is) calls (sizes.4 ∙ sizes.5)
 
 module _ (p : Plan) (t : Tables) where
   pub plain_means :

@@ -34,7 +34,7 @@ use Rattle.conformance.proofs.Theorems.{open_answers, open_zeros}
 use Rattle.batch.specs.Run.{events_of, single_calls, numbers_of, Run, finished_run, record_run}
 use Rattle.batch.proofs.RunLaws.{calls_keep, run_accepted, run_refused}
 use Rattle.safety.specs.Lists.{Fresh, Call, event, run, counted_for, counted, made, Each, AfterEach, Safe, answers, tables_after}
-use Rattle.safety.proofs.Lists.Laws.{after_run, events_counted, made_append, tables_append, each_append}
+use Rattle.safety.proofs.Lists.Laws.{after_run, events_counted, made_append, tables_append, each_split}
 use Rattle.safety.proofs.Grounds.Zeros.{zeros_zeroed}
 use Rattle.safety.proofs.Grounds.Opened.{initial_zeros}
 use Rattle.safety.proofs.Grounds.Steps.{Used, used_zeros, used_event, path_event, agreed_used, not_contradicted_event, length_event, slot_event}
@@ -170,11 +170,12 @@ module _ (p : Plan) where
 
   pub after_each_split : (P : Tables → RecordStep → Type 0) (t : Tables) (calls : List Call) (more : List Call)
       → AfterEach p P t (calls ++ more) → AfterEach p P (tables_after p t calls) more
-  after_each_split P t calls more h = each_append P t (made p t calls) (made p (tables_after p t calls) more) (rw (made_append p t calls more) at h)
+  after_each_split P = each_split p P
 
   pub demand_3_each : (t : Tables) → Fresh t → (calls : List Call) (e : List ℕ)
       → Safe p (tables_after p t calls) (record_step p (tables_after p t calls) e)
-  demand_3_each t fresh calls e = (after_each_split (Safe p) t calls (event e ∷ []) (demand_3 p t fresh (calls ++ (event e ∷ [])))).0
+  demand_3_each t fresh calls e =
+      (each_split p (Safe p) t calls (event e ∷ []) (demand_3 p t fresh (calls ++ (event e ∷ [])))).0
 
 module _ (p : Plan) (t : Tables) where
   pub opening_fresh : (record_open p t).answer ≡ accepted tt → Fresh (record_open p t).tables

@@ -3,6 +3,7 @@
 --     events_counted                                event calls count as their events
 --     counted_append, made_append, tables_append    the calls of two lists, one after the other
 --     each_append                                   what holds of each call of both holds of each call of the second
+--     each_split                                    what holds after each call of both holds after each of the second
 -- Assumes nothing.
 use Rattle.std.specs.Prelude.{ℕ, List, [], ◌∷◌, ◌++◌, map, ◌≡◌}
 use Rattle.std.proofs.Common.{append_assoc, ◌∙◌, ap}
@@ -12,7 +13,7 @@ use Rattle.message.specs.Outcome.{Outcome, accepted, refused}
 use Rattle.record.specs.Record.{Tables, RecordStep, record_step}
 use Rattle.batch.specs.Run.{single_calls, tables_left, Run, finished_run, record_run}
 use Rattle.batch.proofs.RunLaws.{calls_append, left_append, run_accepted, run_refused}
-use Rattle.safety.specs.Lists.{Call, event, run, counted_for, counted, made, Each, tables_after}
+use Rattle.safety.specs.Lists.{Call, event, run, counted_for, counted, made, Each, AfterEach, tables_after}
 
 module _ (p : Plan) where
   pub run_tables : (t : Tables) (events given : List ℕ)
@@ -57,3 +58,8 @@ module _ (p : Plan) where
 pub each_append : (P : Tables → RecordStep → Type 0) (t : Tables) (a b : List RecordStep) → Each P t (a ++ b) → Each P (tables_left t a) b
 each_append P t [] b h = h
 each_append P t (s ∷ ss) b h = each_append P s.tables ss b h.1
+
+-- what holds after each call of two lists, one after the other, holds after each of the second
+pub each_split : (p : Plan) (P : Tables → RecordStep → Type 0) (t : Tables) (calls more : List Call)
+    → AfterEach p P t (calls ++ more) → AfterEach p P (tables_after p t calls) more
+each_split p P t calls more h = each_append P t (made p t calls) (made p (tables_after p t calls) more) (rw (made_append p t calls more) at h)
