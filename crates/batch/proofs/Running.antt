@@ -1,6 +1,6 @@
 -- A list of events, event by event.
 --     Running                               after i events: the answers so far and the single calls from here on are those from the start
---     running-start, running-next, running-end
+--     running_start, running_next, running_end
 --     event_within                          the next event lies within the list
 -- Assumes nothing.
 use Prim.Native.Nat.{ℕ, ◌+◌, ◌-◌, ◌*◌, ◌≤◌, ◌<◌}

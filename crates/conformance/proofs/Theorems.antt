@@ -6,13 +6,13 @@
 --     record_keeps       a refused call leaves all tables as they were
 --     record_acts        an accepted call sets what the published action sets in rmState, aState and msgs together; the sent message, the
 --                        answered slot, the one inbox, its leader's bytes of the summary and all other bytes are given
---     acted_one          and nothing is left open: what record-acts says holds of one answer and of one record alone
+--     acted_one          and nothing is left open: what record_acts says holds of one answer and of one record alone
 --     record_slot, role_slots     an answered slot is one of N's, below 1,024
 --     record_inboxes     an event call changes no inbox but that of its own leader
 --     record_unmarked, record_summary, record_bits     only kind 4 changes the summary, and only its own leader's bytes; no bit is cleared
 --     record_sound       a sound record stays sound
 --     tables_answer, judge_answers, role_judges     what makes a record sound: rows 1 to 6 and 20; and a role's own tables: rows 1 to 6
---     rm_agrees, acceptor_agrees, leader_agrees     a role's own call answers and leaves what the event call does; no-event, sound-tables
+--     rm_agrees, acceptor_agrees, leader_agrees     a role's own call answers and leaves what the event call does; no_event, sound_tables
 --     open_answers, open_keeps, open_zeros          opening
 -- Assumes nothing.
 use Rattle.std.specs.Prelude.{ℕ, ◌≤◌, ◌<◌, true, false, List, ◌⊎◌, ◌≡◌, length, replicate}

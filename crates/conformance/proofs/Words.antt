@@ -15,7 +15,7 @@
 --     sound_words                   the tables that a role's own call is not lent are as rows 2, 3, 4, 6 and 20 ask
 --     lowest_words, order_words, first_words     what `Lowest` and `InOrder` say of an answer; what the first row that applies is
 --     summary_words, stands_words, summary_place       row 20; the bits of a byte of the summary; where a leader's bytes lie
---     received_words                the messages that a leader takes; decision-words, taken-words: a weight, an acceptor
+--     received_words                the messages that a leader takes; decision_words, taken_words: a weight, an acceptor
 --     decline_words                 the 2a by which a weight declines
 --     marked_words, standing_words     what receiving a message does to the bits; the byte that an inbox says, in numbers
 --     tables_mean, replaced_mean, open_means, step_means, role_means, read_means     what the records and enums in the contracts stand for: nothing but their parts

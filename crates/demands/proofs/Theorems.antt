@@ -1,14 +1,14 @@
 -- The demands on one page. `record_step`, `record_run`, `record_open`, `rm_step`, `acceptor_step`, `leader_step`, `read_message` and `write_message` are what
 -- the contracts of the calls equate their answers and tables with, for all tables, bytes and events: no contract has a `requires`, and every call ends.
---     demand-1, -first (-list, -opening, -roles, -messages)      an acceptance or one refusal number from the documents; the first row that applies, in
+--     demand_1, _first (_list, _opening, _roles, _messages)      an acceptance or one refusal number from the documents; the first row that applies, in
 --                           the documents' order; no byte changes
---     demand_2, -acts, -sets, -copies, -published      accepted exactly where the published action is enabled and no other row applies; what is then set
---     demand_3, -words, -list     over every list of event calls and list calls from a fresh record
---     summary_true, -decided      after such a list the summary says what the inboxes say: what is Decided, and which weights have declined
+--     demand_2, _acts, _sets, _copies, _published      accepted exactly where the published action is enabled and no other row applies; what is then set
+--     demand_3, _words, _list     over every list of event calls and list calls from a fresh record
+--     summary_true, _decided      after such a list the summary says what the inboxes say: what is Decided, and which weights have declined
 --     same_answers, same_runs     and all answers are those of the calls without a summary
 --     list_counts, list_claims     a list call counts as its single calls in order, and as none where it is refused; its answers and tables are theirs
---     byte_form, -written   a slice is read as a message exactly where it is the one form of that message
---     orders_apart, -list, -roles  no call accepts what another order's writer gives, not as a slice and not from a table; by which rows: Orders.antt
+--     byte_form, _written   a slice is read as a message exactly where it is the one form of that message
+--     orders_apart, _list, _roles  no call accepts what another order's writer gives, not as a slice and not from a table; by which rows: Orders.antt
 -- For every plan, so for each order number. Assumes nothing.
 use Rattle.std.specs.Prelude.{ℕ, ◌*◌, ◌+◌, ◌<◌, true, ◌⊎◌, ◌↔◌, ◌≡◌, length, get_or, take}
 use mathlib.Core.List.{List, [], ◌∷◌, ◌++◌, map, Memᴰ}

@@ -1,7 +1,7 @@
 -- Short lists of calls from fresh records. Between the first three, of one weight, one acceptor, one leader and six slots in N and in the inbox, every
 -- kind is accepted, and an order ends committed or aborted, so what is proved of accepted calls and of lists of calls is not proved of nothing.
 --     order, fresh          the plan and the fresh record
---     committing, aborting, declining; committing-list, mixing     the lists of calls; the first as one list; lists among event calls
+--     committing, aborting, declining; committing_list, mixing     the lists of calls; the first as one list; lists among event calls
 --     spread, heard         three weights, three acceptors and two leaders; two weights, one acceptor and two leaders
 --     pair, pair_fresh, declined    two weights, three acceptors and one leader: a weight declines, and the order is aborted though no acceptor has voted
 --     overruled             one weight, three acceptors and two leaders: prepared is chosen though a leader has proposed aborted, at ballot 1

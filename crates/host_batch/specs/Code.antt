@@ -1,5 +1,5 @@
 -- The list call for other languages: 0 or the refusal, the five tables, and the lent answers.
---     HostRun, hostRun, hostRunOf
+--     HostRun, host_run, host_run_of
 -- Its laws are in Code/Laws.antt. Assumes nothing.
 pub mod Laws
 use Rattle.std.specs.Prelude.{ℕ, List}

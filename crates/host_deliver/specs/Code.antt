@@ -1,5 +1,5 @@
 -- A delivery for other languages: the number of its answer, and N.
---     HostDelivery, hostDelivery, hostDeliveryOf
+--     HostDelivery, host_delivery, host_delivery_of
 -- Its law is in proofs/CodeLaws.antt. Assumes nothing.
 use Rattle.std.specs.Prelude.{ℕ, List}
 use Rattle.deliver.specs.Deliver.{Delivery}

@@ -1,5 +1,5 @@
 -- A leader's own call for other languages: a number for the answer, and all that it is lent.
---     HostLeader, hostLeader, hostLeaderOf
+--     HostLeader, host_leader, host_leader_of
 -- Its law is in Code/Laws.antt. Assumes nothing.
 pub mod Laws
 use Rattle.std.specs.Prelude.{ℕ, List}

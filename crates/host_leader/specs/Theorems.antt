@@ -1,4 +1,4 @@
--- What the number of a leader's own call stands for, and that beside it stand the inbox, N and the leader's bytes of the summary (leader-means).
+-- What the number of a leader's own call stands for, and that beside it stand the inbox, N and the leader's bytes of the summary (leader_means).
 -- Assumes nothing.
 use Rattle.std.specs.Prelude.{ℕ, ◌+◌, ◌<◌, List, ◌≡◌, refl}
 use Rattle.std.proofs.Common.{ap}

@@ -1,6 +1,6 @@
 -- The writer's answer by cases.
---     hostWrite-plan, -unknown, -message a plan out of range, an unknown map, and what document 01's writer answers
---     written_refused, -bytes            the number of a writer's answer by cases
+--     host_write_plan, _unknown, _message a plan out of range, an unknown map, and what document 01's writer answers
+--     written_refused, _bytes            the number of a writer's answer by cases
 -- Assumes nothing.
 use Rattle.std.specs.Prelude.{ℕ, ◌*◌, true, false, ◌≡◌}
 use Rattle.std.proofs.Common.{eq-eqb, ne_eqb}

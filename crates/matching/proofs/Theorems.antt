@@ -1,12 +1,12 @@
 -- Demand 2, role by role, and document 01's sentence "The lowest number that applies is returned". For each role's own call:
---     *-answers       the answer is refused with k exactly where row k applies and none with a lower number does (of a leader: where it is the
+--     *_answers       the answer is refused with k exactly where row k applies and none with a lower number does (of a leader: where it is the
 --                     first row that applies), and accepted exactly where no row applies; row 12 is that the published action is not enabled
---     *-keeps         a refused call leaves both tables as they were, and the summary
---     *-sound         well-formed tables stay well formed, of the same lengths, and so does the summary
+--     *_keeps         a refused call leaves both tables as they were, and the summary
+--     *_sound         well-formed tables stay well formed, of the same lengths, and so does the summary
 --     and for each action: an accepted call sets what the published action sets; the sent message, the answered slot and every byte are given.
 --     plain_answers_lem   the leader's call without a summary, which reads what is decided or declined from its inbox, answers by document 01's rows
 --     inbox_says, announced_in     what it so reads, as a test of the inbox and as a claim
---     leader_unmarked     a kind other than 4 leaves the summary as it was (what kind 4 leaves is in leader-receipt)
+--     leader_unmarked     a kind other than 4 leaves the summary as it was (what kind 4 leaves is in leader_receipt)
 --     majorities_meet     a plan's majorities are as document 001 assumes them, so the theorems of paxos_commit hold at every plan
 --     readable_messages   a message in range is one of document 001's set Message
 --     well_formed         rows 5 and 6 in terms of messages

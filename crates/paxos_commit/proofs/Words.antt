@@ -3,12 +3,12 @@
 --     first_row, next_row, step_row, spec_row        TCInit, TCNext, TCStep and TCSpec
 --     state_types, message_words, assume_words       PCTypeOK: the row, and each message in msgs; the set Message; the ASSUME
 --     first_state, step_words, spec_words            PCInit, PCStep and PCSpec
---     next_all                  each action in all its ranges is a PCNext (that there is no other: next-cases of Theorems.antt)
+--     next_all                  each action in all its ranges is a PCNext (that there is no other: next_cases of Theorems.antt)
 --     actions_mean              Phase2a, Phase1b, Phase2b and Decide by what they read, and by their messages
 --     proposes_one, next_one    an action has one next state, Phase2a for each value that it may propose
 --     proposes_enabled, enabled_words     when an action is enabled, at every size
 --     announced_words           Decide widened: what counts as decided
---     EarlyAbort, widened_next  it is PCNext, and Abort sent in one case more, which early-words writes out
+--     EarlyAbort, widened_next  it is PCNext, and Abort sent in one case more, which early_words writes out
 --     widened_step, widened_spec     WidenedStep and WidenedSpec
 -- Assumes nothing.
 use Rattle.std.specs.Prelude.{ℕ, suc, ◌≤◌, ◌<◌, Bool, true, cond, ◌⊎◌, ◌↔◌, ◌≡◌, refl, eqb}

@@ -201,7 +201,7 @@ module _ (RM Acceptor : ℕ → Type 0) (Majority : (ℕ → Bool) → Type 0) w
       ⊎ (Decide s s'
       ⊎ ((acc : ℕ) × Acceptor acc × (Phase1b acc s s' ⊎ Phase2b acc s s'))))
 
-  -- [PCNext]_⟨rmState, a_state, msgs⟩: an action, or the variables stay
+  -- [PCNext]_⟨rmState, aState, msgs⟩: an action, or the variables stay
   abbrev pub PCStep : State → State → Type 0
   PCStep s s' = PCNext s s' ⊎ ((s'.rm_state ≡ s.rm_state) × (s'.a_state ≡ s.a_state) × UnchangedMsgs s s')
 

@@ -27,7 +27,7 @@ module _ (RM Acceptor : ℕ → Type 0) (Majority : (ℕ → Bool) → Type 0) w
   abbrev pub WidenedNext : State → State → Type 0
   WidenedNext s s' = PCNext RM Acceptor Majority s s' ⊎ WidenedDecide s s'
 
-  -- [WidenedNext]_⟨rmState, a_state, msgs⟩
+  -- [WidenedNext]_⟨rmState, aState, msgs⟩
   abbrev pub WidenedStep : State → State → Type 0
   WidenedStep s s' =
       WidenedNext s s'

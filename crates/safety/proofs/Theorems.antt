@@ -8,7 +8,7 @@
 --                              before it left
 --     demand_3_each            so demand 3 holds of every event call after every list of calls
 --     opening_fresh, opening_lengths     opening makes a fresh record of the same lengths, the summary of n × L bytes (a refused one leaves the
---                              tables: open-keeps in the crate conformance)
+--                              tables: open_keeps in the crate conformance)
 --     demand_3_opened          demand 3 from opening on
 --     fresh_initial            a fresh record reads as PCInit of module PaxosCommit
 -- Why they hold: Grounds.antt. What the summary says meanwhile: Standing.antt. Assumes nothing.

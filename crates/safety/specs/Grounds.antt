@@ -4,7 +4,7 @@
 --     Unchanged          the tables that hold that state keep their bytes
 --     Standing           each byte of the summary is what its leader's inbox says
 --     Grounded           the invariant, what the inboxes have to do with N, and the summary with them
--- Below: Opened.antt, a record of zeros; Marks.antt, Inboxes.antt and Kept.antt, each event keeps it; Published.antt, each event is a step of module
+-- In proofs/Grounds: Opened.antt, a record of zeros; Marks.antt, Inboxes.antt and Kept.antt, each event keeps it; Published.antt, each event is a step of module
 -- PaxosCommit, Decide widened; Moves.antt, what becomes of W; Contradicted.antt, no decision contradicts; Steps.antt, one event call. Laws that these
 -- use: Zeros.antt, Stored.antt.
 -- Assumes nothing.

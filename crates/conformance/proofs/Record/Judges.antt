@@ -1,5 +1,5 @@
 -- The judgements of the plan and the tables answer the first of their rows that applies.
---     record-judges, lent-judges, rm-judges, acceptor-judges, leader-judges
+--     record_judges, lent_judges, rm_judges, acceptor_judges, leader_judges
 --     record_judges_then, lent_judges_then     so where a call judges more after them
 -- Assumes nothing.
 use Rattle.std.specs.Prelude.{ℕ, ◌*◌, not, List, ◌≡◌, refl}

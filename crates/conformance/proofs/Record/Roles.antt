@@ -1,6 +1,6 @@
 -- "Answer and tables are as in the event call": a role's own call and the event call agree where the tables that the role is not lent are
 -- sound.
---     rm-agrees, acceptor-agrees, leader-agrees
+--     rm_agrees, acceptor_agrees, leader_agrees
 --     sound_tables     on a sound record the tables not lent are sound
 -- Assumes nothing.
 use Prim.Native.Nat.{ℕ, zero, suc, ◌*◌, ◌%◌, ◌≤◌, ◌<◌}

@@ -1,4 +1,4 @@
--- A leader's own call whose answer became a number (leader-coded). Assumes nothing.
+-- A leader's own call whose answer became a number (leader_coded). Assumes nothing.
 use Rattle.std.specs.Prelude.{ℕ, ◌≡◌}
 use Rattle.std.proofs.Common.{◌∙◌, ap}
 use Rattle.leader.specs.Leader.{LeaderStep}

@@ -4,7 +4,7 @@
 --     table_form                                a well-formed table is one that holds messages in range
 --     Stored, stored                            a table after an accepted store, all that is said of it
 --     has_room, no_room                         a store is accepted exactly where there is room
---     clash, ruled-judged, ruled-judged₂, ruled-sound, ruled-slot, ruled-sending, ruled-applied
+--     clash, ruled_judged, ruled_judged₂, ruled_sound, ruled_slot, ruled_sending, ruled_applied
 --                                               the rows of a call, along its definition
 --     tables_kept                               both tables of a refused call
 --     applied_accepted, and_then_accepted, sending_accepted    what an accepted call says of its parts

@@ -5,7 +5,7 @@
 --     reported_seen, seen_reported     a 1b of (i, b) from an acceptor
 --     voted_seen, seen_voted           a 2b of (i, b, v) from an acceptor
 --     among, quorum_majority, majority_quorum, majority_some     a test that a majority passes
---     decided-Decided, Decided-decided Decided(i, v)
+--     decided_Decided, Decided-decided Decided(i, v)
 -- Assumes nothing.
 use Prim.Native.Nat.{ℕ, zero, suc, ◌+◌, ◌≤◌, ◌<◌, zero-le, suc-le-suc}
 use Rattle.std.specs.Prelude.{Bool, false, ◌&&◌, cond, ◌≡◌, refl, ltb, leb, eqb}

@@ -4,8 +4,8 @@
 --     Refused   why an Abort may be announced
 --     Grounds   what the state of a resource manager rests on
 --     Inv       the invariant
--- Below: Growth.antt, what every action does and why that keeps the invariant; Agreement.antt, what the invariant gives; Rm.antt, Leader.antt
--- and Acceptor.antt, a lemma for each action; Histories.antt, behaviours.
+-- In proofs/PaxosCommit/Safety: Growth.antt, what every action does and why that keeps the invariant; Agreement.antt, what the invariant
+-- gives; Rm.antt, Leader.antt and Acceptor.antt, a lemma for each action; Histories.antt, behaviours.
 -- Assumes nothing.
 use Rattle.std.specs.Prelude.{ℕ, zero, suc, ◌≤◌, ◌<◌, Bool, true, ◌⊎◌, ◌≡◌}
 use Rattle.paxos_commit.specs.PaxosCommit.{Val, prepared, aborted, Bal, ballot, at_most, Message, phase1b, phase2a, phase2b}

@@ -1,6 +1,6 @@
 -- Each event keeps a record grounded.
 --     Unowned                   what N may gain while no inbox does: not a 2a at a ballot that a leader owns
---     unowned_other, -zero      what is no 2a; a 2a at ballot 0
+--     unowned_other, _zero      what is no 2a; a 2a at ballot 0
 --     grounded_proposes         Phase2a, by which N and the leader's inbox gain such a 2a
 --     grounded_acted            each case of `Acted`; an inbox that gains a message was not full
 -- Assumes nothing.

@@ -1,10 +1,10 @@
 -- One event call on a record that was opened and used, whatever the bytes of the event.
 --     Idle                   a record of zeros that every call refuses: the plan or a length is wrong, the summary's too
 --     Used, used_zeros       grounded or idle; a record of zeros is one of the two
---     used_event             so it stays; standing-event: and its summary true
+--     used_event             so it stays; standing_event: and its summary true
 --     path_event, agreed_used, not_contradicted_event     the three claims of demand 3
 --     length_event           W keeps its length
---     published_event        an accepted call is an action of PCNext, for kind 8 of Decide widened, or a receipt; kept-event: a refused one leaves W,
+--     published_event        an accepted call is an action of PCNext, for kind 8 of Decide widened, or a receipt; kept_event: a refused one leaves W,
 --                            Q and N
 --     action_event           so is every step that the accepted event's `Action` allows
 --     slot_event             what stands in a slot of N stays there; on any tables

@@ -1,5 +1,5 @@
 -- The actions of an acceptor keep the invariant.
---     inv-phase1b, inv-phase2b
+--     inv_phase1b, inv_phase2b
 -- Assumes nothing.
 use Rattle.std.specs.Prelude.{ℕ, ◌≤◌, Bool, ◌≡◌, refl}
 use Rattle.std.proofs.Common.{inl, inr, arith}

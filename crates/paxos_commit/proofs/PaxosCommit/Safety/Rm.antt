@@ -1,6 +1,6 @@
 -- The actions of a resource manager keep the invariant, and each is a step of Transaction Commit or leaves its state.
---     inv-rm-prepare, inv-rm-choose-to-abort, inv-rm-rcv-commit, inv-rm-rcv-abort
---     tc-rm-prepare, tc-rm-choose-to-abort, tc-rm-rcv-commit, tc-rm-rcv-abort
+--     inv_rm_prepare, inv_rm_choose_to_abort, inv_rm_rcv_commit, inv_rm_rcv_abort
+--     tc_rm_prepare, tc_rm_choose_to_abort, tc_rm_rcv_commit, tc_rm_rcv_abort
 -- Assumes nothing.
 use Rattle.std.specs.Prelude.{ℕ, zero, suc, ◌<◌, Bool, ◌⊎◌, ◌≡◌, refl}
 use Rattle.std.proofs.Common.{inl, inr, ⊎_elim, ◌∙◌, arith}
