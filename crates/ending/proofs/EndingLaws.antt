@@ -1,7 +1,7 @@
 -- How an order stands, said of each resource manager's state.
 --     Everyone                                  every one is in the state
 --     are_all_true, are_all_of                  what `are_all` says
---     ending_committed, -aborted, -open         the ending by the tests, as the code meets them
+--     ending_committed, _aborted, _open         the ending by the tests, as the code meets them
 --     committed_exactly, open_exactly, aborted_exactly     when the ending is which
 -- Assumes nothing.
 use Rattle.std.specs.Prelude.{ℕ, zero, suc, ◌<◌, Bool, true, false, List, [], ◌∷◌, ◌↔◌, ◌≡◌, refl, eqb, length, get_or}

@@ -1,7 +1,7 @@
 -- How an order stands, from its W (document 01, "The rehearsal": "COMMITTED (all are), ABORTED (all are) and OPEN").
 --     are_all      every byte of W is the state
 --     ending_of    committed, aborted, or open
--- Its laws are in Ending/Laws.antt. Assumes nothing.
+-- Its laws are in proofs/EndingLaws.antt. Assumes nothing.
 use Rattle.std.specs.Prelude.{ℕ, Bool, cond, List, eqb}
 use Rattle.slots.specs.All.{all}
 use Rattle.tcommit.specs.RmState.{committed, aborted}

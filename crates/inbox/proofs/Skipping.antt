@@ -1,6 +1,6 @@
 -- Slots that Phase2a passes.
 --     passed_word                        a slot whose first word is not sought can be passed
---     all_none, -next, -fewer, -join     no slot, one slot further, fewer slots, two runs of slots in a row
+--     all_none, _next, _fewer, _join     no slot, one slot further, fewer slots, two runs of slots in a row
 --     all_met                            one slot of a block further, by the answers for its slots put together
 --     gathers_passed                     slots that are passed add nothing to what was gathered
 -- Assumes nothing.

@@ -5,7 +5,7 @@
 --     within            an index below a slice's length, where that is known
 --     told              the same for a row `refuse_if (not b)`
 --     halt, pass        a row of a chain of refusals: it applies, or what the rows below it say
---     reader_refused, -accepted     a reader's answer taken apart by `let .. else`: its refusal, or the message that goes on
+--     reader_refused, _accepted     a reader's answer taken apart by `let .. else`: its refusal, or the message that goes on
 -- Assumes nothing.
 use Prim.Native.Nat.{ℕ, ◌<◌}
 use mathlib.Core.Bool.{Bool, true, false, not}

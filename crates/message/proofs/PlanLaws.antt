@@ -1,5 +1,5 @@
 -- The bounds of a plan in range, and of what its counts make.
---     PlanBounds, plan-bounds
+--     PlanBounds, plan_bounds
 --     bytes_bound                 a product of two bytes is small, so the code's numbers fit
 -- Assumes nothing.
 use Rattle.std.specs.Prelude.{ℕ, ◌*◌, ◌≤◌, ◌<◌, true, ◌&&◌, ◌≡◌}

@@ -1,7 +1,7 @@
 -- The reader and the writer (document 01, "Message bytes"; rows 1 and 15 to 17 of "Refusals by place"; document 02, Paper 1: row 18).
 --     read_message, read_outcome   the message that a slice is, or the refusal; what the reader's enum stands for
 --     write_message                the writer's answer: the number, eight bytes and a length, all zero if it refuses
--- Their laws are in Codec/Laws.antt. Assumes nothing.
+-- Their laws are in proofs/Codec/Laws.antt. Assumes nothing.
 pub mod Laws
 use Rattle.std.specs.Prelude.{ℕ, not, List, eqb, length, get_or, replicate}
 use Rattle.message.specs.declared.Plan.{Plan}

@@ -1,13 +1,13 @@
 -- Messages and their one byte form (document 01, "Message bytes"; document 02, Paper 1: the order number, slots of 8 bytes; Paper 3: lengths).
 --     is_value, is_vote, is_in_range  the ranges of a message's fields; out of range is refusal 17
---     map1a .. mapDecision          the six bit maps
+--     map1a .. map_decision          the six bit maps
 --     order_bytes                   the order number as two bytes
 --     bytes_of, message_length       the bytes of a message: its map, its fields, the order number
 --     slot_size, slot_of             a slot's size, and a message followed by zeros
 --     is_known, map_length          the known bit maps, and the length that one stands for, 0 for an unknown one
 --     fields_message, decode        the message that a known map and the bytes after it make
 --     has_order                     the plan's order number stands where a message of this length has it
--- Their laws are in Form/Laws.antt and, map by map, in Form/Maps.antt. Assumes nothing.
+-- Their laws are in proofs/Form/Laws.antt and, map by map, in proofs/Form/Maps.antt. Assumes nothing.
 use Rattle.std.specs.Prelude.{ℕ, ◌+◌, ◌-◌, ◌/◌, ◌%◌, Bool, true, ◌&&◌, ◌||◌, cond, List, [], ◌∷◌, ◌++◌, ltb, leb, eqb, length, get_or, replicate}
 use Rattle.std.specs.Int.Count.{ones}
 use Rattle.message.specs.declared.Plan.{Plan}

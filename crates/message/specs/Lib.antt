@@ -4,7 +4,7 @@
 --     Form      messages, their ranges (refusal 17) and their bytes
 --     Codec     the reader and the writer
 --     Rows      the rows of "Refusals by place" for a call: the lowest number that applies, or the first row
---     Theorems  the one byte form, and what reader and writer answer
+--     Theorems  what the theorems on the byte form, the reader and the writer name; they are in proofs/Theorems.antt
 pub mod Outcome
 pub mod Plan
 pub mod Form

@@ -3,7 +3,7 @@
 --     number_of    document 01's number of an outcome: 0, or the refusal
 --     and_then     an accepted value goes on to the rows below, a refusal stays
 --     refuse_if   a row of "Refusals by place": the number if the row applies, else what the rows below it say
--- Its laws are in Outcome/Laws.antt. Assumes nothing.
+-- Its laws are in proofs/Outcome/Laws.antt. Assumes nothing.
 use Rattle.std.specs.Prelude.{ℕ, Bool, true, false}
 
 pub data Outcome (A : Type 0) : Type 0 where

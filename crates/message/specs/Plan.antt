@@ -1,7 +1,7 @@
 -- The plan of an order and its range (document 01, "The plan and four tables").
 --     is_count                           a count from 1 to a limit
 --     is_plan                            whether a plan is in range; where it is not, every call refuses 1
--- Its laws are in Plan/Laws.antt. Assumes nothing.
+-- Its laws are in proofs/PlanLaws.antt. Assumes nothing.
 use Rattle.std.specs.Prelude.{ℕ, Bool, ◌&&◌, leb}
 use Rattle.message.specs.declared.Plan.{Plan}
 

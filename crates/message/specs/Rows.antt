@@ -7,7 +7,7 @@
 --                      where no row applies
 --     First, InOrder   row k is the first that applies; the answer is refused with k exactly where it is, and accepted exactly where no row
 --                      applies: for the calls that check a row after one with a higher number
--- Its laws are in Rows/Laws.antt and Rows/Named.antt. Assumes nothing.
+-- Its laws are in proofs/Rows/Laws.antt and proofs/Rows/Named.antt. Assumes nothing.
 use Rattle.std.specs.Prelude.{ℕ, ◌<◌, ◌↔◌, ◌≡◌}
 use Rattle.message.specs.Outcome.{Outcome, accepted, refused}
 

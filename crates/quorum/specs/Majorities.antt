@@ -4,7 +4,7 @@
 --     rows             one such row after the other
 --     majorities       the table: A from 1 to 7
 --     entry_number     "its entry for A and mask is number 2^A - 2 + mask"
--- Their laws are in Majorities/Laws.antt. Assumes nothing.
+-- Their laws are in proofs/MajorityLaws.antt. Assumes nothing.
 use Rattle.std.specs.Prelude.{ℕ, zero, suc, ◌+◌, ◌-◌, ◌^◌, cond, List, [], ◌∷◌, ◌++◌}
 use Rattle.quorum.specs.Quorum.{is_majority}
 use Rattle.quorum.specs.Mask.{ones}

@@ -3,7 +3,7 @@
 --     insert_bit  the number with a bit set
 --     join        the byte with an acceptor's bit set: one from 8 on has no bit, and changes nothing
 --     ones        how many of the first so many bits stand
--- Its laws are in Mask/Laws.antt. Assumes nothing.
+-- Its laws are in proofs/Mask/Laws.antt. Assumes nothing.
 use Rattle.std.specs.Prelude.{ℕ, zero, suc, ◌+◌, ◌*◌, ◌/◌, ◌%◌, Bool, cond, ltb, eqb}
 
 unfoldable pub has_bit : ℕ → ℕ → Bool

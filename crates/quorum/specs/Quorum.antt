@@ -3,7 +3,7 @@
 --     is_majority        whether so many of so many acceptors are a majority
 --     is_quorum          whether those of so many acceptors that pass a test are a majority
 --     Distinct, AmongFirst     a list of different acceptors of a set, by which a majority is said without counting
--- Its laws are in Quorum/Laws.antt; Quorum/Sets.antt says what a quorum is in document 01's words. Assumes nothing.
+-- Its laws are in proofs/Quorum/Laws.antt; proofs/Quorum/Sets.antt says what a quorum is in document 01's words. Assumes nothing.
 use Rattle.std.specs.Prelude.{ℕ, zero, suc, ◌+◌, ◌*◌, ◌<◌, Bool, true, cond, ◌≡◌, ltb}
 use mathlib.Core.List.{List, [], ◌∷◌, Memᴰ}
 

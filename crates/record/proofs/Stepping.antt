@@ -3,7 +3,7 @@
 --     kept_none, kept_part, marked_part           storing in an inbox, and marking a leader's bytes
 --     update_states, update_votes, update_inbox   an update of each table
 --     apply_refused, apply_accepted               the two ways out of `apply`
---     performed_refused, -other, -receipt         what was evaluated is applied and, of a receipt, marked; receiver, that its leader is one
+--     performed_refused, _other, _receipt         what was evaluated is applied and, of a receipt, marked; receiver, that its leader is one
 --     step_applied                                on a judged record that is the event call
 --     step_refused, step_performed                the whole call: the judgement refuses; it does not
 -- Assumes nothing.

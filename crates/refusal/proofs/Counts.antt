@@ -1,5 +1,5 @@
 -- A plan by its three counts.
---     plan_rms, -acceptors, -leaders     a count out of range: so is the plan
+--     plan_rms, _acceptors, _leaders     a count out of range: so is the plan
 --     plan_counts                        all three in range
 -- Assumes nothing.
 use mathlib.Core.Bool.{Bool, true, false, ◌&&◌}

@@ -3,7 +3,7 @@
 --     plan_size, plan_of, plan_in, plan_outcome  the plan that an input begins with, or refusal 1; what the code's enum stands for
 --     events_in                       the bytes of the events after it
 --     event_count, event_at           how many events they are, and the k-th, from 0 on
--- Their laws are in Input/Laws.antt. Assumes nothing.
+-- Their laws are in proofs/Input/Laws.antt. Assumes nothing.
 use Rattle.std.specs.Prelude.{ℕ, ◌+◌, ◌*◌, ◌/◌, not, List, ltb, length, get_or, take, drop}
 use Rattle.message.specs.declared.Plan.{Plan}
 use Rattle.message.specs.Outcome.{Outcome, accepted, refused, refuse_if}

@@ -4,7 +4,7 @@
 --     word_of           the last line
 --     Put, put_of       a buffer, and where what was put into it ends
 --     put              a text put at a place of a buffer
--- Their laws are in Text/Laws.antt. Assumes nothing.
+-- Their laws are in proofs/Text/Laws.antt. Assumes nothing.
 use Prim.Native.Char.{code}
 use Rattle.std.specs.Prelude.{ℕ, suc, ◌+◌, ◌/◌, ◌%◌, cond, List, [], ◌∷◌, ltb, length, set}
 use Prim.Native.String.{String, [] as []ˢ, ◌∷◌ as ◌∷ˢ◌}

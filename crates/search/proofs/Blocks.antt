@@ -1,7 +1,7 @@
 -- Slots that are passed, one by one and many at a time.
 --     begins_none, begins_next     none begins with the word so far: of no slot, and one further
 --     begins_form                  a slot that does not begin as the form does is not the form
---     passed_start, -more, -one, none_next     none is the form so far: of no slot, further on, one slot further
+--     passed_start, _more, _one, none_next     none is the form so far: of no slot, further on, one slot further
 --     found_end, found_here        the end without a slot that is the form, and such a slot
 --     row_further, found_row, passed_row     the same of a row
 -- Assumes nothing.

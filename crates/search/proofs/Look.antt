@@ -1,7 +1,7 @@
 -- Looking for a form in a table.
 --     is_form_lem, not_form                 a slot and the form as numbers
 --     found_near, looked_near               what is found before the place near the edge
---     Looked, looked_at, -next, -free, -full     what the slot at a place from there on says
+--     Looked, looked_at, _next, _free, _full     what the slot at a place from there on says
 --     message_located                       where a message stands or goes, by its form
 -- Assumes nothing.
 use Prim.Native.Nat.{ℕ, zero, suc, ◌+◌, ◌*◌, ◌/◌, ◌≤◌, ◌<◌, zero-le}

@@ -1,5 +1,5 @@
 -- Whether every byte of a list passes a test.
---     all     its laws are in All/Laws.antt
+--     all     its laws are in proofs/All/Laws.antt
 -- Assumes nothing.
 use Rattle.std.specs.Prelude.{ℕ, Bool, true, ◌&&◌, List, [], ◌∷◌}
 

@@ -2,7 +2,7 @@
 --     same_message    whether two messages are equal: whether their bytes are
 --     place_in         the place where an equal message stands, else the first unused one, else none
 --     message_at      the message in the slot at a place, or 8
--- How the code looks at bytes is Table/Scan.antt; Send/Laws.antt says that the two agree. Assumes nothing.
+-- How the code looks at bytes is Table/Scan.antt; proofs/SendLaws.antt says that the two agree. Assumes nothing.
 use Rattle.std.specs.Prelude.{ℕ, zero, suc, Bool, cond, List, [], ◌∷◌, ltb}
 use Rattle.message.specs.declared.Plan.{Plan}
 use Rattle.message.specs.declared.Message.{Message}

@@ -6,8 +6,8 @@
 --     messages                   the messages in a table, in order
 --     table_of                    the table of so many slots that holds these messages
 --     same_bytes, store_at       whether two slots are the same; a slot's bytes replaced
--- Its laws are in Table/Laws.antt, and what a judged table holds in Table/Holds.antt; Table/Foreign.antt is another order's message;
--- Table/Scan.antt is how the code looks at bytes, Table/Edge.antt where used slots end, Table/Words.antt at many bytes together.
+-- Its laws are in proofs/Table/Laws.antt, and what a judged table holds in proofs/Table/Holds.antt; proofs/Table/Foreign.antt is another order's message;
+-- Table/Scan.antt is how the code looks at bytes, proofs/Table/Edge.antt where used slots end, Table/Words.antt at many bytes together.
 -- Assumes nothing.
 pub mod Scan
 pub mod Words

@@ -6,7 +6,7 @@
 --     send_of            where an equal message stands nothing is stored, else the message in the first unused slot
 --     sending            a row "storing" of "Refusals by place": the number where there is no room
 --     store_bytes, store_messages   the table after a store, and the messages
--- View/Laws.antt says that on a judged table the two views and the two stores agree. Assumes nothing.
+-- proofs/View/Laws.antt says that on a judged table the two views and the two stores agree. Assumes nothing.
 pub mod Bytes
 use Rattle.std.specs.Prelude.{ℕ, ◌/◌, List, [], ◌∷◌, ◌++◌, length}
 use Rattle.message.specs.declared.Plan.{Plan}

@@ -1,6 +1,6 @@
 -- Equal parts of bytes, each judged as a table.
 --     part_within                      a part lies within the bytes
---     parts_none, -step, -stop, -end   no part, one part further, a part that is no table, and all parts
+--     parts_none, _step, _stop, _end   no part, one part further, a part that is no table, and all parts
 -- Assumes nothing.
 use Prim.Native.Nat.{ℕ, zero, suc, ◌+◌, ◌-◌, ◌*◌, ◌/◌, ◌≤◌, ◌<◌}
 use mathlib.Core.Bool.{Bool, true, false, ◌&&◌}

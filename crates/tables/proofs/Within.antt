@@ -1,7 +1,7 @@
 -- A byte beside its bounds.
 --     over_more, over_none               by how much one byte is more than another
 --     within_above, within_under         how far above the lowest it lies, round past 255
---     within_only, -any, -from, -value, -below, -most, -far     the kinds of bounds
+--     within_only, _any, _from, _value, _below, _most, _far     the kinds of bounds
 -- Assumes nothing.
 use Prim.Native.Nat.{ℕ, ◌+◌, ◌-◌, ◌≤◌, ◌<◌}
 use mathlib.Core.Bool.{true, false, ◌&&◌, ◌||◌, cond}

@@ -1,5 +1,5 @@
 -- For all, and for some, of the numbers below a count: the tests as propositions.
---     forAll-all, all-forAll, forAll-fails, forSome-some, some-forSome, forSome-none
+--     for_all_all, all_for_all, for_all_fails, for_some_some, some_for_some, for_some_none
 --     for_some_zero, for_some_next   no number, and one more
 -- Assumes nothing.
 use Prim.Native.Nat.{ℕ, zero, suc, ◌+◌, ◌<◌}

@@ -1,7 +1,7 @@
 -- What Phase2a asks of the inbox, gathered message by message, and that this is what Inbox.antt says.
 --     no_reports, report_step   before the first message, and one message further
 --     Gathers                   what was gathered and what is ahead make up what all messages say
---     gathers_start, -next, -end     before the first message, one message further, and none left
+--     gathers_start, _next, _end     before the first message, one message further, and none left
 --     reports_bad_plan, reports_plan     the answer, from what was gathered
 -- Assumes nothing.
 use Rattle.std.specs.Prelude.{ℕ, ◌<◌, ◌≤◌, Bool, ◌&&◌, ◌||◌, cond, List, [], ◌∷◌, ◌≡◌, ltb, length}

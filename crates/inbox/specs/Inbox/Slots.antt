@@ -4,7 +4,7 @@
 --     message_1b, -1b-vote, -2a     what it is where the map is known
 --     ahead                     the messages from a slot on
 --     used_within               the used slots are slots of the inbox
---     ahead_next, -end          one message further, and none left
+--     ahead_next, _end          one message further, and none left
 -- Assumes nothing.
 use Rattle.std.specs.Prelude.{ℕ, ◌+◌, ◌*◌, ◌/◌, ◌≤◌, ◌<◌, List, [], ◌∷◌, ◌≡◌, length, get_or, take, drop}
 use Rattle.std.proofs.Common.{◌∙◌, add-zero, le_trans, add-one, lit<, get_or-take, get_or-drop}

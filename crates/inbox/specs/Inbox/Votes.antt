@@ -3,7 +3,7 @@
 --     Tally, vote_step    one message further: the sets, and whether the one that was joined is a majority
 --     small_ballot        a 2b's ballot is a byte
 --     Counts              what was gathered and what is ahead make up what all messages say
---     counts_start, -next, -major, -end    before the first message, one message further, at a majority, and with none left
+--     counts_start, _next, _major, _end    before the first message, one message further, at a majority, and with none left
 -- Assumes nothing.
 use Rattle.std.specs.Prelude.{ℕ, ◌<◌, Bool, ◌&&◌, ◌||◌, cond, ◌≡◌, ltb, length, get_or, set, replicate}
 use Rattle.std.proofs.Math.Bool.{true, false, or-true, or-false, and-false}

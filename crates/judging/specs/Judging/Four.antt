@@ -1,5 +1,5 @@
 -- Rows 1 to 6 read no summary.
---     judged-four
+--     judged_four
 -- Assumes nothing.
 use Rattle.std.specs.Prelude.{◌≡◌, refl}
 use Rattle.message.specs.declared.Plan.{Plan}

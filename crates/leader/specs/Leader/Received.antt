@@ -1,5 +1,5 @@
 -- A receipt on judged tables: what the code then reads from the bytes of the inbox is what its messages say; it keeps its length, and N its bytes.
---     received-same
+--     received_same
 -- Assumes nothing.
 use Rattle.std.specs.Prelude.{ℕ, Bool, not, List, ◌≡◌, eqb, length}
 use Rattle.std.proofs.Math.Bool.{true, false}

@@ -1,12 +1,12 @@
 -- The reader and the writer case by case, in the order of the refusals.
---     readMessage-plan, -empty, -unknown
---     read_message_bytes_of, -other, -of-other   the form of a message in range reads as the message; that of another order is 18, and never read
---     FormOf, read_message_form, -none   what is read is the form of a message in range, and has bytes
+--     read_message_plan, _empty, _unknown
+--     read_message_bytes_of, _other, _of_other   the form of a message in range reads as the message; that of another order is 18, and never read
+--     FormOf, read_message_form, _none   what is read is the form of a message in range, and has bytes
 --     read_message_whole                 a slice of its map's length: its fields and its order number decide
---     read_message_number, -number-length   a slice whose number is 0 is read as what it decodes to, and has its map's length
---     Begins, shape_length, -range, -none, shape_unknown     their number where the map is known: another length, a field out of range, or 0; and where it is not
---     shape_whole, read_number_early, -order   a slice that they pass; the reader's number is theirs, or else 18 or 0
---     writeMessage-plan, -range, -accepted
+--     read_message_number, _number_length   a slice whose number is 0 is read as what it decodes to, and has its map's length
+--     Begins, shape_length, _range, _none, shape_unknown     their number where the map is known: another length, a field out of range, or 0; and where it is not
+--     shape_whole, read_number_early, _order   a slice that they pass; the reader's number is theirs, or else 18 or 0
+--     write_message_plan, _range, _accepted
 -- Assumes nothing.
 use Rattle.std.specs.Prelude.{ℕ, ◌≤◌, ◌<◌, Bool, true, false, not, cond, List, [], ◌≡◌, refl, eqb, length, get_or}
 use Rattle.std.proofs.Math.Path.{sym}

@@ -1,16 +1,16 @@
 -- The byte form: every message has one, of the length that its map stands for, and decoding gives the message back.
 --     message_cases         the six forms of a message, for a rule that is computed at each
---     message_length_length, -bounds, map_length_bytes_of  the length of a form, and that its map stands for it
+--     message_length_length, _bounds, map_length_bytes_of  the length of a form, and that its map stands for it
 --     length_slot_of, first_slot_of, take_slot_of, drop_slot_of, slot_of_parts, map_length_slot_of, slot_of_used  a form followed by zeros
 --     map_length_zero, first_bytes_of   no map is 0
---     map_length_known, -none, known_some, unknown_length    a known map's length, and that any other has none
+--     map_length_known, _none, known_some, unknown_length    a known map's length, and that any other has none
 --     is_known_other, map_length_unknown   any other than the six is unknown
 --     known_map, known_decision, known_vote    a rule that holds of the six known maps holds of every map whose length is not 0
---     map_length_bound, -least    no message is longer than a slot, and none shorter than four bytes
+--     map_length_bound, _least    no message is longer than a slot, and none shorter than four bytes
 --     decode_bytes_of, decode_slot_of      decoding the form of a message, or its slot, gives the message
 --     bytes_of_decode       bytes with a known map, its length and the order number are the form of what they decode to
 --     has_order_bytes, order_compared    what is compared of the order number, byte by byte and as one number
---     has_order_bytes_of, -other, bytes_of_order  a form has its plan's order number and no other; no form is of two orders
+--     has_order_bytes_of, _other, bytes_of_order  a form has its plan's order number and no other; no form is of two orders
 -- Assumes nothing.
 use Rattle.std.specs.Prelude.{ℕ, zero, suc, ◌+◌, ◌*◌, ◌-◌, ◌/◌, ◌%◌, ◌≤◌, ◌<◌, Bool, true, false, ◌&&◌, List, [], ◌∷◌, ◌++◌, ◌≡◌, refl, eqb, length, get_or, take, drop, replicate}
 use Rattle.std.proofs.Common.{zero-le, sym, ◌∙◌, ap, ap₂, subst, arith, lit≤, length-append, drop_of_length-le, take-append-drop, drop-cons, eq-eqb, ne_eqb, eqb-true}

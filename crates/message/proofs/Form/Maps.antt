@@ -1,12 +1,12 @@
 -- The byte form map by map, for crates that look at single bytes.
---     length-1a ..            the length that the map stands for
---     fields-1a ..            the message that the map and the bytes after it make
+--     length_1a ..            the length that the map stands for
+--     fields_1a ..            the message that the map and the bytes after it make
 --     Other, fields_other     any other map makes a decision
 --     fields_cases            a rule that is shown for the six maps holds of what any map makes
 --     decode_fields           what bytes decode to, by their map and the five bytes after it
---     range-1a ..             the range of the fields
---     decoded-1a ..           the same of bytes that begin with the map
---     slot-1a ..              a message's slot, byte by byte
+--     range_1a ..             the range of the fields
+--     decoded_1a ..           the same of bytes that begin with the map
+--     slot_1a ..              a message's slot, byte by byte
 --     is_value_bounds         what a value is
 -- Assumes nothing.
 use Rattle.std.specs.Prelude.{ℕ, ◌/◌, ◌%◌, true, ◌&&◌, List, [], ◌∷◌, ◌≡◌, ltb, leb, get_or}

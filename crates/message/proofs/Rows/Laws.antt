@@ -1,6 +1,6 @@
 -- A chain of refusals answers the first row that applies, which has the lowest number if the rows' numbers ascend.
 --     is_ascending         the numbers ascend, from `least` on
---     Ruled                the chain answers the first row that applies; ruled-row, -guard, -both, -pass, -skip and -end give it row by row
+--     Ruled                the chain answers the first row that applies; ruled_row, _guard, _both, _pass, _skip and _end give it row by row
 --     lowest_of_ruled      so it answers the lowest number
 --     in_order_of_ruled    it answers by the rows in their order, whatever their numbers
 --     lowest_in_order      which is the lowest number where they ascend

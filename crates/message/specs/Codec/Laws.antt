@@ -1,9 +1,9 @@
 -- The reader and the writer case by case, in the order of the refusals.
---     readMessage-plan, -empty, -unknown
---     FormOf, read_message_form, -none   what is read is the form of a message in range, and has bytes
+--     read_message_plan, _empty, _unknown
+--     FormOf, read_message_form, _none   what is read is the form of a message in range, and has bytes
 --     shape_number                       rows 1 to 17 alone
---     Begins, shape_length, -range, -none, shape_unknown     their number where the map is known: another length, a field out of range, or 0; and where it is not
---     writeMessage-plan, -range, -accepted
+--     Begins, shape_length, _range, _none, shape_unknown     their number where the map is known: another length, a field out of range, or 0; and where it is not
+--     write_message_plan, _range, _accepted
 -- Assumes nothing.
 use Rattle.std.specs.Prelude.{ℕ, ◌≤◌, ◌<◌, Bool, true, false, not, cond, List, [], ◌≡◌, refl, eqb, length, get_or}
 use Rattle.std.proofs.Math.Path.{sym}

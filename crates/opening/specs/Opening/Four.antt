@@ -1,5 +1,5 @@
 -- Rows 1 and 2 read no summary.
---     lengths-four
+--     lengths_four
 -- Assumes nothing.
 use Rattle.std.specs.Prelude.{◌≡◌, refl}
 use Rattle.message.specs.declared.Plan.{Plan}

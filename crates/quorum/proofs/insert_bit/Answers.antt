@@ -2,12 +2,9 @@
 use mathlib.Core.Path.{◌∙◌, ap}
 use lib.Bits.{bit_or}
 use borrow.Author.Rules.{rules}
-use borrow.Author.Tests.{lt-ltb, le-ltb}
+use borrow.Author.Tests.{lt-ltb}
 use Rattle.quorum.proofs.Mask.Laws.{bit_value, or_insert}
 use Rattle.quorum.proofs.insert_bit.Goals as goal
-
-pub returns-then-acc-ge8 : goal.returns-then-acc-ge8
-returns-then-acc-ge8 c = rw (le-ltb _ _ c.if-acc-ge8.true)
 
 pub returns : goal.returns
 returns c = rw (lt-ltb _ _ c.if-acc-ge8.false) (ap (bit_or c.args.mask) (bit_value _ c.if-acc-ge8.false) ∙ or_insert _ _)

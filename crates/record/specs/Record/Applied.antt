@@ -1,5 +1,5 @@
 -- What `record::perform` answers and leaves: the event call without the judgement of the tables, over the view of their bytes. On a judged
--- record it is the event call (proofs/Stepping.antt, step-applied).
+-- record it is the event call (proofs/Stepping.antt, step_applied).
 --     kept_inbox, changed      the tables after a change, which is of W, of Q or of the inbox of the event's leader; and of N
 --     applied_to               what a verdict answers and leaves
 --     record_applied           that of the event's verdict: the answer and the tables, the summary marked

@@ -1,5 +1,5 @@
 -- Laws of the input.
---     plan_in_short, -bad, -good    an input without a plan, with a bad one, with a good one
+--     plan_in_short, _bad, _good    an input without a plan, with a bad one, with a good one
 --     plan_in_number                the refusal is 1
 --     plan_in_is, plan_in_more      an accepted plan is in range; bytes after it play no part
 --     take_least, drop_least        so many elements, or all

@@ -1,9 +1,9 @@
 -- The laws of the edge, on any bytes: from a place on by steps, each of which ends at a used slot.
 --     Reached                         a place that such steps lead to
---     step_yes, -no, -out, steps_next, -stop     the steps one by one
---     near_within, near_below, near_close, edge_within, -reached, -unused     the edge, and the place near it
---     edge_at, -on                    from the place near it on slots are used up to the edge, and there none is
---     length_slots_held, length_peek_messages, held_at, peek_next, -end   the slots and messages before it, as a loop meets them
+--     step_yes, _no, _out, steps_next, _stop     the steps one by one
+--     near_within, near_below, near_close, edge_within, _reached, _unused     the edge, and the place near it
+--     edge_at, _on                    from the place near it on slots are used up to the edge, and there none is
+--     length_slots_held, length_peek_messages, held_at, peek_next, _end   the slots and messages before it, as a loop meets them
 -- Assumes nothing.
 use Prim.Native.Nat.{ℕ, zero, suc, ◌+◌, ◌-◌, ◌*◌, ◌/◌, ◌≤◌, ◌<◌, zero-le}
 use Rattle.std.specs.Prelude.{Bool, not, ◌&&◌, ◌≡◌, leb, length, get_or, drop}

@@ -2,12 +2,12 @@
 --     is_zero_replicate, is_zero_form                 zeros
 --     length_slots_up_to, get_d_slots_up_to, drop_slots_up_to, join_slots_slots_up_to  slots by place
 --     length_slots, get_d_slots, first_slot           the slots of a table, and their first bytes
---     read_slot_unused, -used                         a slot of zeros, and one with a message
+--     read_slot_unused, _used                         a slot of zeros, and one with a message
 --     slot_at, slot_at_end, length_read_table          the slot at a place, by any rule
 --     peek_at_in, peek_at_out                         its message
---     leading_used, -bound, -readTable                how many slots at the start are used
+--     leading_used, _bound, _read_table               how many slots at the start are used
 --     map_drop                                        a part of what a rule makes
---     is_table_zero, -none, -first                    a table is well formed where all bytes after them are zeros
+--     is_table_zero, _none, _first                    a table is well formed where all bytes after them are zeros
 -- Assumes nothing.
 use Rattle.std.specs.Prelude.{ℕ, zero, suc, ◌+◌, ◌-◌, ◌*◌, ◌/◌, ◌≤◌, ◌<◌, Bool, true, false, ◌&&◌, cond, ◌≡◌, refl, eqb, length, get_or, take, drop, replicate}
 use Rattle.std.proofs.Common.{zero-le, suc-le-suc, sym, ◌∙◌, ap₂, add-zero, not-suc-le-zero, arith, lit≤, drop-drop, take-add, get_or-take, get_or-drop, eqb-true}

@@ -1,5 +1,5 @@
 -- Steps on a table that was judged before: they look at bytes and judge nothing, so they are defined for all bytes. What they mean on
--- a table that holds messages is in Send/Laws.antt; Scan/Laws.antt has them slot by slot, Edge.antt the edge.
+-- a table that holds messages is in proofs/SendLaws.antt; proofs/Table/Scan/Laws.antt has them slot by slot, proofs/Table/Edge.antt the edge.
 --     peek_slot, peek_table    a slot by its first byte: unused, or the message that its bytes make
 --     slot_message, peek_at     the message in a slot, and that in the slot at a place: 8 where it is unused or beyond the table
 --     is_step, steps_from      from a place on by steps of so many slots, as long as the last slot of each is used

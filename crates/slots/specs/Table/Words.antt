@@ -2,7 +2,7 @@
 --     word_size           the bytes of a word
 --     Word, WordFrom     the number of four bytes, the first of them the lowest, and each byte as a digit of it; of four bytes of a list
 --     AllUsed            so many slots are in use
--- Words/Laws.antt has the slots one by one. Assumes nothing.
+-- proofs/Table/Words/Laws.antt has the slots one by one. Assumes nothing.
 use Rattle.std.specs.Prelude.{ℕ, ◌+◌, ◌*◌, ◌/◌, ◌%◌, ◌<◌, List, ◌≡◌, get_or}
 use Rattle.slots.specs.Table.{slot_size}
 

@@ -1,4 +1,4 @@
--- The view of bytes: what the code of a step is proved against. On a judged table it is the view of the messages (Laws.antt).
+-- The view of bytes: what the code of a step is proved against. On a judged table it is the view of the messages (proofs/View/Laws.antt).
 --     view_bytes         the view
 -- Assumes nothing.
 use Rattle.std.specs.Prelude.{ℕ, List}

@@ -2,12 +2,12 @@
 --     summary_length, summary_bytes, is_summary_lem  row 20 does not apply exactly where the length is right and no byte is above 3
 --     zeros_sound                                   zeros are a summary
 --     stands_prepared, stands_aborted               the bit of each value: bit 0, bit 1
---     stands-0 .. stands-3                          the bits of the four bytes
+--     stands_0 .. stands_3                          the bits of the four bytes
 --     decline_is, is_decline_lem, later_declines    a decline of i is 2a(i, 0, 2); a 2a of a later ballot is none
 --     announced_prepared, announced_aborted         what may be announced, of each value
---     standing-0 .. standing-3                      the byte by that
+--     standing_0 .. standing_3                      the byte by that
 --     two_values, is_value_lem, vote_parts, proposal_instance  a value is 1 or 2; a 2b in range has an instance of the plan and a value, a 2a an instance
---     marked_length, marked_sound                   a receipt leaves a summary one; markedAt-length, markedAt-sound by what the slot holds
+--     marked_length, marked_sound                   a receipt leaves a summary one; marked_at_length, marked_at_sound by what the slot holds
 --     marked_no_decline, marked_none                     a 2a that is no decline marks nothing, nor does a message that is no 2a and no 2b
 --     marked_bit, marked_decline, marked_grows      a 2b of (i, v) sets that bit where it is decided, a decline of i the bit of (i, 2), and no other;
 --                                                   no bit is cleared

@@ -1,5 +1,5 @@
 -- On tables of any content a refusal of `record::perform` changes no byte.
---     applied-keeps
+--     applied_keeps
 -- Assumes nothing.
 use Rattle.std.specs.Prelude.{ℕ, Bool, ◌&&◌, List, ◌≡◌, refl}
 use Rattle.std.proofs.Common.{sym, ap}

@@ -1,7 +1,7 @@
 -- The laws of the steps on a judged table.
---     peek_slot_unused, -used               a slot by its first byte
---     same_bytes_true, -refl, -false        comparing byte by byte
---     locate_from_at, -next, -free, -full   looking slot by slot
+--     peek_slot_unused, _used               a slot by its first byte
+--     same_bytes_true, _refl, _false        comparing byte by byte
+--     locate_from_at, _next, _free, _full   looking slot by slot
 --     store_at_in, store_at_out             the table after a store
 -- Assumes nothing.
 use Rattle.std.specs.Prelude.{ℕ, ◌+◌, ◌*◌, ◌/◌, ◌≤◌, ◌<◌, Bool, true, false, ◌≡◌, refl, length, get_or, take, drop}

@@ -1,8 +1,8 @@
 -- Q tested sixteen bytes at a time: each byte and the one after it, taken for bal and val, leave a number in a lane of their own, and 0 stands
 -- for bytes in order. Only every third lane counts.
 --     ordered                                    bal and val in order, by the code's tests
---     Gathered, gathered_none, -step, -all       the lanes after the first n of them were gathered
---     Clear, clear_none, -step, -all             the first n lanes that count are 0
+--     Gathered, gathered_none, _step, _all       the lanes after the first n of them were gathered
+--     Clear, clear_none, _step, _all             the first n lanes that count are 0
 --     block_votes                                sixteen places of Q by three times sixteen lanes
 -- Assumes nothing.
 use Rattle.std.specs.Prelude.{ℕ, zero, suc, ◌+◌, ◌*◌, ◌-◌, ◌≤◌, ◌<◌, true, List, ◌≡◌, refl, length, get_or, drop, set}
