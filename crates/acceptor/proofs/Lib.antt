@@ -1,5 +1,5 @@
 -- The proofs that belong to no one function.
---     Deciding   from the code's answers to the cases of the two actions
+--     ByKind     from a read event's kind to the rows of the verdict
 --     Judging    from the judgement of the plan and both tables to the whole call
-pub mod Deciding
+pub mod ByKind
 pub mod Judging

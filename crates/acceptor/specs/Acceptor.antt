@@ -9,10 +9,9 @@
 pub mod Laws
 pub mod Updates
 pub mod Sound
-use Rattle.std.specs.Prelude.{ℕ, ◌+◌, ◌*◌, not, cond, List, ltb, leb, eqb, length, get_or}
+use Rattle.std.specs.Prelude.{ℕ, ◌+◌, ◌*◌, not, cond, List, ltb, leb, eqb, length, get_or, None, Option}
 use Rattle.message.specs.declared.Plan.{Plan}
 use Rattle.message.specs.declared.Vote as VoteType
-use Rattle.message.specs.declared.Vote.TheVariants.{None, Cast}
 use Rattle.message.specs.declared.Message.{Message}
 use Rattle.message.specs.declared.Message.TheVariants.{Phase1a, Phase1b, Phase2a, Phase2b, Decision}
 use Rattle.message.specs.Outcome.{Outcome, accepted, refused, and_then, refuse_if}
@@ -25,6 +24,7 @@ use Rattle.change.specs.declared.Sent.TheVariants.{Slot}
 use Rattle.change.specs.declared.Update.TheVariants.{Vote}
 use Rattle.change.specs.Change.{Step, applied}
 use Rattle.event.specs.Event.{kind_of, who_of, slot_number, is_event}
+use Rattle.message.specs.Form.{cast_vote}
 
 -- from byte 3 × (ins × A + acc): mbal, bal, val
 unfoldable pub vote_at : Plan → ℕ → ℕ → ℕ
@@ -40,8 +40,8 @@ acceptor_judged p votes network =
     (accepted tt)))))
 
 -- val 0 is no vote
-unfoldable pub vote_of : ℕ → ℕ → VoteType.Vote
-vote_of bal val = cond (eqb val 0) None (Cast bal val)
+unfoldable pub vote_of : ℕ → ℕ → Option VoteType.Vote
+vote_of bal val = cond (eqb val 0) None (cast_vote bal val)
 
 -- Phase1b, on a 1a at `ballot`: mbal is below it; mbal becomes it, and a 1b with the new mbal and the old vote is sent
 unfoldable pub phase1b : Plan → List ℕ → View → ℕ → ℕ → ℕ → Outcome Change

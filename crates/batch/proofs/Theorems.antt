@@ -9,20 +9,20 @@
 --     run_one         a list of one event is the event call: its number, 0 or the refusal, and its tables
 --     run_halves      a list is its two halves one after the other
 --     perform_means   on a sound record `record::perform` is the event call; on any tables its refusal changes no byte
---     run_means       how the contract reads the enum; what `tables_left` and an answer's number are
+--     run_means       how the contract reads the call's answer; what `tables_left` and an answer's number are
 -- Empty, one and halves leave nothing open: they give every list. Assumes nothing.
-use Rattle.std.specs.Prelude.{ℕ, ◌*◌, ◌≤◌, Bool, not, ◌⊎◌, ◌↔◌, length}
+use Rattle.std.specs.Prelude.{ℕ, ◌*◌, ◌≤◌, Bool, not, ◌⊎◌, ◌↔◌, length, Ok, Err}
 use Rattle.std.proofs.Math.Bool.{true, false}
 use mathlib.Core.List.{List, [], ◌∷◌, ◌++◌, Memᴰ}
 use Rattle.std.proofs.Math.Path.{◌≡◌, refl}
 use Rattle.std.proofs.Common.{sym, ◌∙◌, ap, arith, length-append}
 use Rattle.std.proofs.lemmas.Bool.{not-true, not-false}
 use Rattle.message.specs.declared.Plan.{Plan}
-use Rattle.message.specs.Outcome.{Outcome, accepted, refused, refuse_if, number_of}
+use Rattle.message.specs.declared.Refusal.{Refusal}
+use Rattle.message.specs.Outcome.{Outcome, accepted, refused, refuse_if, number_of, refusal_number}
 use Rattle.message.proofs.Outcome.Laws.{accepted_not_refused}
 use Rattle.message.specs.Rows.{Lowest}
 use Rattle.message.proofs.Rows.Laws.{is_ascending, ruled_row, ruled_end, lowest_of_ruled}
-use Rattle.change.specs.declared.Judged.TheVariants.{Sound, Refused}
 use Rattle.change.specs.declared.Sent.{Sent}
 use Rattle.leader.specs.Leader.{is_summary}
 use Rattle.record.specs.Record.{Tables, RecordStep, record_judged, lent_judged, record_step}
@@ -98,13 +98,13 @@ pub perform_means : (p : Plan) (t : Tables) (e : List ℕ)
 perform_means p t e = (step_applied p t e, applied_keeps p t e)
 
 pub run_means : (t : Tables) (answers : List ℕ)
-    → (run_of Sound t answers ≡ record { answer = accepted tt; tables = t; answers = answers })
-    × ((k : ℕ) → run_of (Refused k) t answers ≡ record { answer = refused k; tables = t; answers = answers })
+    → (run_of (Ok tt) t answers ≡ record { answer = accepted tt; tables = t; answers = answers })
+    × ((r : Refusal) → run_of (Err r) t answers ≡ record { answer = refused (refusal_number r); tables = t; answers = answers })
     × ((k : ℕ) → number_of {A = Sent} (refused k) ≡ k)
     × ((sent : Sent) → number_of (accepted sent) ≡ 0)
     × (tables_left t [] ≡ t)
     × ((s : RecordStep) (ss : List RecordStep) → tables_left t (s ∷ ss) ≡ tables_left s.tables ss)
-run_means t answers = (refl, (λ k. refl), (λ k. refl), (λ sent. refl), refl, λ s ss. refl)
+run_means t answers = (refl, (λ r. refl), (λ k. refl), (λ sent. refl), refl, λ s ss. refl)
 
 module _ (p : Plan) (t : Tables) where
   pub run_empty : lent_judged p t ≡ accepted tt → record_run p t [] [] ≡ record { answer = accepted tt; tables = t; answers = [] }

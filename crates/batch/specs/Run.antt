@@ -6,13 +6,12 @@
 --     is_list, run_judged           row 19; rows 1 to 6, then 19, then 20
 --     finished_run, settled_run, record_run  the list call: the single calls' tables and numbers; a refused one changes no byte
 -- Its laws are in proofs/RunLaws.antt. Assumes nothing.
-use Rattle.std.specs.Prelude.{ℕ, ◌*◌, ◌/◌, ◌%◌, Bool, ◌&&◌, not, List, [], ◌∷◌, map, eqb, length}
+use Rattle.std.specs.Prelude.{ℕ, ◌*◌, ◌/◌, ◌%◌, Bool, ◌&&◌, not, List, [], ◌∷◌, map, eqb, length, Result}
 use Rattle.message.specs.declared.Plan.{Plan}
-use Rattle.message.specs.Outcome.{Outcome, accepted, refused, and_then, refuse_if, number_of}
-use Rattle.change.specs.declared.Judged.{Judged}
-use Rattle.change.specs.Change.{judged_outcome}
+use Rattle.message.specs.Outcome.{Outcome, accepted, refused, and_then, refuse_if, number_of, outcome}
 use Rattle.leader.specs.Leader.{is_summary}
 use Rattle.record.specs.Record.{Tables, RecordStep, record_judged, record_step}
+use Rattle.message.specs.declared.Refusal.{Refusal}
 
 -- the events, four bytes each; a rest is none
 abbrev pub events_of : List ℕ → List (List ℕ)
@@ -42,8 +41,8 @@ pub record Run : Type 0 where
   pub answers : List ℕ
 
 -- the answer's enum, the tables and the lent answers at exit
-abbrev pub run_of : Judged → Tables → List ℕ → Run
-run_of judged t answers = record { answer = judged_outcome judged; tables = t; answers = answers }
+abbrev pub run_of : Result (Unit {0}) Refusal → Tables → List ℕ → Run
+run_of judged t answers = record { answer = outcome judged; tables = t; answers = answers }
 
 -- row 19: whole events, and an answer for each
 abbrev pub is_list : List ℕ → List ℕ → Bool

@@ -1,37 +1,19 @@
 -- What a step answers and leaves (document 01: "An accepted event returns the first slot of N where the sent message stands, or quiet";
 -- "all tables keep their bytes").
---     answer_outcome, verdict_outcome, judged_outcome  what the enums stand for: acceptance with its values, or the refusal's number
 --     updated                          a role's own table (W, Q or one inbox) after a change
 --     Step, step_of, refusal, applied   the answer and both tables after a verdict; a refusal changes no byte
 -- Its laws are in Change/Laws.antt. Assumes nothing.
 pub mod Laws
 pub mod Updates
-use Rattle.std.specs.Prelude.{ℕ, ◌+◌, List, set}
+use Rattle.std.specs.Prelude.{ℕ, ◌+◌, List, set, Result}
 use Rattle.message.specs.declared.Plan.{Plan}
-use Rattle.message.specs.Outcome.{Outcome, accepted, refused}
+use Rattle.message.specs.declared.Refusal.{Refusal}
+use Rattle.message.specs.Outcome.{Outcome, accepted, refused, outcome}
 use Rattle.slots.specs.View.{store_bytes}
 use Rattle.change.specs.declared.Sent.{Sent}
-use Rattle.change.specs.declared.Answer.{Answer}
-use Rattle.change.specs.declared.Answer.TheVariants as Answers
 use Rattle.change.specs.declared.Update as UpdateType
 use Rattle.change.specs.declared.Update.TheVariants.{State, Vote, Inbox}
 use Rattle.change.specs.declared.Change as ChangeType
-use Rattle.change.specs.declared.Verdict.{Verdict}
-use Rattle.change.specs.declared.Verdict.TheVariants as Verdicts
-use Rattle.change.specs.declared.Judged.{Judged}
-use Rattle.change.specs.declared.Judged.TheVariants as Judgements
-
-abbrev pub answer_outcome : Answer → Outcome Sent
-answer_outcome (Answers.Accepted sent) = accepted sent
-answer_outcome (Answers.Refused number) = refused number
-
-abbrev pub verdict_outcome : Verdict → Outcome ChangeType.Change
-verdict_outcome (Verdicts.Accepted change) = accepted change
-verdict_outcome (Verdicts.Refused number) = refused number
-
-abbrev pub judged_outcome : Judged → Outcome (Unit {0})
-judged_outcome Judgements.Sound = accepted tt
-judged_outcome (Judgements.Refused number) = refused number
 
 -- one byte of W; mbal, bal and val of one instance and acceptor in Q; a slot of an inbox
 abbrev pub updated : Plan → UpdateType.Update → List ℕ → List ℕ
@@ -44,9 +26,9 @@ pub record Step : Type 0 where
   pub table : List ℕ
   pub network : List ℕ
 
--- the answer's enum and both tables at exit
-abbrev pub step_of : Answer → List ℕ → List ℕ → Step
-step_of answer table network = record { answer = answer_outcome answer; table = table; network = network }
+-- the answer and both tables at exit
+abbrev pub step_of : Result Sent Refusal → List ℕ → List ℕ → Step
+step_of answer table network = record { answer = outcome answer; table = table; network = network }
 
 -- a refused step: the number, and both tables as they were
 abbrev pub refusal : List ℕ → List ℕ → ℕ → Step

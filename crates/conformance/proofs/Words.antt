@@ -19,26 +19,25 @@
 --     decline_words                 the 2a by which a weight declines
 --     marked_words, standing_words     what receiving a message does to the bits; the byte that an inbox says, in numbers
 --     tables_mean, replaced_mean, open_means, step_means, role_means, read_means     what the records and enums in the contracts stand for: nothing but their parts
+--     numbers_mean, outcome_means     the refusals by their numbers, which differ, so an outcome says which answer it is
 -- Assumes nothing.
-use Rattle.std.specs.Prelude.{ℕ, suc, ◌+◌, ◌-◌, ◌*◌, ◌/◌, ◌%◌, ◌≤◌, ◌<◌, Bool, true, false, ◌&&◌, ◌||◌, List, [], ◌∷◌, ◌++◌, ◌⊎◌, ◌↔◌, ◌≡◌, refl, eqb, length, get_or}
+use Rattle.std.specs.Prelude.{ℕ, suc, ◌+◌, ◌-◌, ◌*◌, ◌/◌, ◌%◌, ◌≤◌, ◌<◌, Bool, true, false, ◌&&◌, ◌||◌, List, [], ◌∷◌, ◌++◌, ◌⊎◌, ◌↔◌, ◌≡◌, refl, eqb, length, get_or, None, Option, Result, Ok, Err}
 use Rattle.std.proofs.Math.Bool.{and-true}
 use Rattle.std.proofs.Common.{◌∙◌, ap}
 use Rattle.message.specs.declared.Plan.{Plan}
 use Rattle.message.specs.declared.Message.{Message}
 use Rattle.message.specs.declared.Message.TheVariants.{Phase1a, Phase1b, Phase2a, Phase2b, Decision}
 use Rattle.message.specs.declared.Vote.{Vote}
-use Rattle.message.specs.declared.Vote.TheVariants.{None, Cast}
-use Rattle.message.specs.declared.Read.TheVariants as Reads
-use Rattle.message.specs.Outcome.{Outcome, accepted, refused}
+use Rattle.message.specs.declared.Refusal.{Refusal}
+use Rattle.message.specs.declared.Refusal.TheVariants as Refusals
+use Rattle.message.proofs.Outcome.Laws.{outcome_injective}
+use Rattle.message.specs.Outcome.{Outcome, accepted, refused, refusal_number, outcome}
 use Rattle.message.specs.Rows.{Rows, end, guard, Either, Applies, First, InOrder, Lowest}
-use Rattle.message.specs.Codec.{read_outcome}
 use Rattle.message.specs.Plan.{is_plan}
-use Rattle.message.specs.Form.{is_in_range}
+use Rattle.message.specs.Form.{is_in_range, cast_vote}
 use Rattle.slots.specs.Table.{is_table_length, is_table, messages}
 use Rattle.event.specs.Event.{kind_of, who_of, high_of, low_of, slot_number, is_event}
 use Rattle.change.specs.declared.Sent.{Sent}
-use Rattle.change.specs.declared.Answer.TheVariants as Answers
-use Rattle.change.specs.declared.Judged.TheVariants as Judgements
 use Rattle.change.specs.Change.{step_of}
 use Rattle.quorum.specs.Quorum.{is_quorum, Distinct, AmongFirst}
 use Rattle.rm.specs.Rm.{are_states}
@@ -97,7 +96,7 @@ owner_turns p l b = owns_turns p b l
 pub range_words : (p : Plan) (ins acc mbal bal val : ℕ)
     → ((is_in_range p (Phase1a ins bal) ≡ true) ↔ ((ins < p.rms) × (1 ≤ bal)))
     × ((is_in_range p (Phase1b ins acc mbal None) ≡ true) ↔ ((ins < p.rms) × (acc < p.acceptors)))
-    × ((is_in_range p (Phase1b ins acc mbal (Cast bal val)) ≡ true) ↔ ((ins < p.rms) × (acc < p.acceptors) × ((val ≡ 1) ⊎ (val ≡ 2))))
+    × ((is_in_range p (Phase1b ins acc mbal (cast_vote bal val)) ≡ true) ↔ ((ins < p.rms) × (acc < p.acceptors) × ((val ≡ 1) ⊎ (val ≡ 2))))
     × ((is_in_range p (Phase2a ins bal val) ≡ true) ↔ ((ins < p.rms) × ((val ≡ 1) ⊎ (val ≡ 2))))
     × ((is_in_range p (Phase2b ins acc bal val) ≡ true) ↔ ((ins < p.rms) × (acc < p.acceptors) × ((val ≡ 1) ⊎ (val ≡ 2))))
     × ((is_in_range p (Decision val) ≡ true) ↔ ((val ≡ 1) ⊎ (val ≡ 2)))
@@ -151,23 +150,37 @@ pub replaced_mean : (w q n i s x : List ℕ)
 replaced_mean w q n i s x = (refl, refl, refl, refl, refl)
 
 -- an answer in a contract is the acceptance with its values, or the number, and the tables are as they are lent
-pub open_means : (k : ℕ) (t : Tables)
-    → (opening_of Judgements.Sound t ≡ record { answer = accepted tt; tables = t })
-    × (opening_of (Judgements.Refused k) t ≡ record { answer = refused k; tables = t })
-open_means k t = (refl, refl)
+pub open_means : (r : Refusal) (t : Tables)
+    → (opening_of (Ok tt) t ≡ record { answer = accepted tt; tables = t })
+    × (opening_of (Err r) t ≡ record { answer = refused (refusal_number r); tables = t })
+open_means r t = (refl, refl)
 
-pub step_means : (sent : Sent) (k : ℕ) (t : Tables)
-    → (record_step_of (Answers.Accepted sent) t ≡ record { answer = accepted sent; tables = t })
-    × (record_step_of (Answers.Refused k) t ≡ record { answer = refused k; tables = t })
-step_means sent k t = (refl, refl)
+pub step_means : (sent : Sent) (r : Refusal) (t : Tables)
+    → (record_step_of (Ok sent) t ≡ record { answer = accepted sent; tables = t })
+    × (record_step_of (Err r) t ≡ record { answer = refused (refusal_number r); tables = t })
+step_means sent r t = (refl, refl)
 
-pub role_means : (sent : Sent) (k : ℕ) (table network : List ℕ)
-    → (step_of (Answers.Accepted sent) table network ≡ record { answer = accepted sent; table = table; network = network })
-    × (step_of (Answers.Refused k) table network ≡ record { answer = refused k; table = table; network = network })
-role_means sent k table network = (refl, refl)
+pub role_means : (sent : Sent) (r : Refusal) (table network : List ℕ)
+    → (step_of (Ok sent) table network ≡ record { answer = accepted sent; table = table; network = network })
+    × (step_of (Err r) table network ≡ record { answer = refused (refusal_number r); table = table; network = network })
+role_means sent r table network = (refl, refl)
 
-pub read_means : (m : Message) (k : ℕ) → (read_outcome (Reads.Message m) ≡ accepted m) × (read_outcome (Reads.Refused k) ≡ refused k)
-read_means m k = (refl, refl)
+pub read_means : (m : Message) (r : Refusal) → (outcome (Ok m) ≡ accepted m) × (outcome {A = Message} (Err r) ≡ refused (refusal_number r))
+read_means m r = (refl, refl)
+
+-- the refusals by document 01's numbers, and 18 to 20 by document 02's
+pub numbers_mean :
+    (refusal_number Refusals.Plan ≡ 1) × (refusal_number Refusals.Length ≡ 2) × (refusal_number Refusals.State ≡ 3) × (refusal_number Refusals.Vote ≡ 4)
+    × (refusal_number Refusals.Network ≡ 5) × (refusal_number Refusals.Inbox ≡ 6) × (refusal_number Refusals.Event ≡ 7) × (refusal_number Refusals.Slot ≡ 8)
+    × (refusal_number Refusals.Role ≡ 9) × (refusal_number Refusals.Ballot ≡ 10) × (refusal_number Refusals.Contradiction ≡ 11) × (refusal_number Refusals.NotEnabled ≡ 12)
+    × (refusal_number Refusals.NetworkFull ≡ 13) × (refusal_number Refusals.InboxFull ≡ 14) × (refusal_number Refusals.Map ≡ 15) × (refusal_number Refusals.MessageLength ≡ 16)
+    × (refusal_number Refusals.Field ≡ 17) × (refusal_number Refusals.Order ≡ 18) × (refusal_number Refusals.Events ≡ 19) × (refusal_number Refusals.Summary ≡ 20)
+numbers_mean =
+    (refl, refl, refl, refl, refl, refl, refl, refl, refl, refl, refl, refl, refl, refl, refl, refl, refl, refl, refl, refl)
+
+-- so an outcome says which answer it is
+pub outcome_means : {A : Type 0} (a b : Result A Refusal) → outcome a ≡ outcome b → a ≡ b
+outcome_means = outcome_injective
 
 -- the first inboxes: none, then one more each time
 pub inboxes_up_to_lem : (p : Plan) (inboxes : List ℕ) (l : ℕ)
@@ -215,7 +228,7 @@ stands_words s i = (stands_prepared s i, stands_aborted s i)
 -- row 9 of kind 4: a 1b, a 2b, or a 2a at ballot 0 (document 02, Paper 6)
 pub received_words : (m : Message)
     → (is_received m ≡ true)
-    ↔ (((i a b : ℕ) × (vote : Vote) × (m ≡ Phase1b i a b vote))
+    ↔ (((i a b : ℕ) × (vote : Option Vote) × (m ≡ Phase1b i a b vote))
     ⊎ (((i a b v : ℕ) × (m ≡ Phase2b i a b v)) ⊎ ((i v : ℕ) × (m ≡ Phase2a i 0 v))))
 received_words = Laws.received_words
 

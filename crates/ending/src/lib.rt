@@ -12,7 +12,7 @@ ghost use Rattle.ending.specs.Ending.{are_all, ending_of};
 use tcommit::RmState;
 
 // How an order stands.
-#[derive(Clone, Copy)]
+#[derive(Clone, Copy, PartialEq, Eq, Debug)]
 pub enum Ending {
     Committed,
     Aborted,
@@ -23,24 +23,17 @@ pub enum Ending {
 fn are_all(states: &[u8], state: u8) -> bool
     ensures { result ≡ are_all state states.now }
 {
-    let mut i: usize = 0;
-    while i < states.len() {
-        if states[i] != state {
-            return false;
-        }
-        i += 1;
-    }
-    true
+    states.iter().all(|s| *s == state)
 }
 
 // How the order stands whose W is lent.
 pub fn ending_of(states: &[u8]) -> Ending
     ensures { result ≡ ending_of states.now }
 {
-    if are_all(states, RmState::COMMITTED) {
+    if are_all(states, RmState::Committed as u8) {
         return Ending::Committed;
     }
-    if are_all(states, RmState::ABORTED) {
+    if are_all(states, RmState::Aborted as u8) {
         return Ending::Aborted;
     }
     Ending::Open

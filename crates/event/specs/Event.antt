@@ -3,10 +3,16 @@
 --     who_limit                                    how many processes the kind's role has
 --     are_arguments                                whether high and low are in range for the kind
 --     is_event                                     row 7
--- Its laws are in Event/Laws.antt. Assumes nothing.
+--     kind_number, kind_with                       the number of a kind, and the kind with a number
+--     kind_read                                    the kind that a number is, or none
+--     event_of, read_event                         the event that the bytes are, or none
+-- Its laws are in Event/Laws.antt and proofs/Reading.antt. Assumes nothing.
 pub mod Laws
-use Rattle.std.specs.Prelude.{ℕ, ◌+◌, ◌*◌, Bool, true, ◌&&◌, cond, List, ltb, leb, eqb, length, get_or}
+use Rattle.std.specs.Prelude.{ℕ, ◌+◌, ◌*◌, Bool, true, ◌&&◌, cond, List, ltb, leb, eqb, length, get_or, Option, Some, None}
 use Rattle.message.specs.declared.Plan.{Plan}
+use Rattle.event.specs.declared.Kind.{Kind}
+use Rattle.event.specs.declared.Kind.TheVariants.{Prepare, ChooseToAbort, TakeDecision, Vote, Receipt, Phase1a, Phase2a, Commit, Abort}
+use Rattle.event.specs.declared.Event as EventType
 
 abbrev pub kind_of : List ℕ → ℕ
 kind_of e = get_or e 0 0
@@ -45,3 +51,37 @@ is_event p e =
     && leb (kind_of e) 8
     && ltb (who_of e) (who_limit p (kind_of e))
     && are_arguments p (kind_of e) (high_of e) (low_of e)
+
+abbrev pub kind_number : Kind → ℕ
+kind_number Prepare = 0
+kind_number ChooseToAbort = 1
+kind_number TakeDecision = 2
+kind_number Vote = 3
+kind_number Receipt = 4
+kind_number Phase1a = 5
+kind_number Phase2a = 6
+kind_number Commit = 7
+kind_number Abort = 8
+
+-- the kind with a number; above 7 it is Abort, and an event's number is at most 8
+abbrev pub kind_with : ℕ → Kind
+kind_with n =
+    cond (eqb n 0) Prepare
+    (cond (eqb n 1) ChooseToAbort
+    (cond (eqb n 2) TakeDecision
+    (cond (eqb n 3) Vote
+    (cond (eqb n 4) Receipt
+    (cond (eqb n 5) Phase1a
+    (cond (eqb n 6) Phase2a
+    (cond (eqb n 7) Commit
+    Abort)))))))
+
+-- that kind, or none
+abbrev pub kind_read : ℕ → Option Kind
+kind_read n = cond (leb n 8) (Some (kind_with n)) None
+
+abbrev pub event_of : List ℕ → EventType.Event
+event_of e = record { kind = kind_with (kind_of e); who = who_of e; high = high_of e; low = low_of e }
+
+unfoldable pub read_event : Plan → List ℕ → Option EventType.Event
+read_event p e = cond (is_event p e) (Some (event_of e)) None

@@ -7,10 +7,9 @@
 --     examples_all    the table has all of them
 --     Marked, marks, summary_examples     Paper 5 in bytes: which receipts set a bit, what kinds 7 and 8 read, and row 20
 -- Assumes nothing.
-use Rattle.std.specs.Prelude.{ℕ, List, [], ◌∷◌, ◌++◌, map, ◌≡◌, refl}
+use Rattle.std.specs.Prelude.{ℕ, List, [], ◌∷◌, ◌++◌, map, ◌≡◌, refl, None}
 use Rattle.std.specs.Int.Count.{ones}
 use Rattle.message.specs.declared.Plan.{Plan}
-use Rattle.message.specs.declared.Vote.TheVariants.{None}
 use Rattle.message.specs.declared.Message.{Message}
 use Rattle.message.specs.declared.Message.TheVariants.{Phase1b, Phase2a}
 use Rattle.message.specs.Outcome.{Outcome, accepted, refused, and_then, refuse_if}

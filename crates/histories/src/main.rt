@@ -8,92 +8,59 @@
 // compares the two.
 //
 //     Head, head_of                   how a history begins, and its plan
-//     read_full, read_number          bytes of standard input, and a number of two
+//     Tables                          the five tables
+//     read_number                     a number of two bytes of standard input
 //     read_end, read_part             as many bytes of a buffer as the next number says
 //     fold, say_digest                every byte of W, Q, N, I and the summary, as one number below a prime
 //     say_table                       a table without the zeros at its end
 //     run_event                       an event call
-//     lent_answers, run_list          what a list call is lent for the answers, and the call
+//     run_list, run_large             a list call, and what it is lent for the answers
 //     run_calls, run                  the calls of a history on the parts of buffers that are its tables
 //     run_histories                   all histories
 //
 // A read or a write that fails ends the program with its error.
 //
 // Each function is proved to be safe and to end; none has a contract on what it prints. Assumes nothing of its own.
-ghost use Rattle.std.specs.Prelude.{◌≡◌, ◌≤◌, min, length, IfOk};
-
-use change::{Answer, Judged, Sent};
-use message::Plan;
+use message::{Plan, Refusal};
 use std::io;
 use std::io::{Read, Write};
+use stored::{Answered, Hex};
 
 const MAX_HISTORIES: usize = 65536;
 
 // The largest prime below 2^32.
 const PRIME: u64 = 4294967291;
 
-// In place of an event's length: a list call.
+// In place of an event's length: a list call. As the stored file has it (tests/histories.py).
 const LIST: u8 = 255;
 
 // How the record begins (0 zeros and opened, 1 given tables and opened, 2 given tables; 4 more where the tables are not shown at the end),
-// and the plan.
+// and the plan. As the stored file has it (tests/histories.py).
 #[derive(Clone, Copy)]
 struct Head {
     mode: u8,
     plan: Plan,
 }
 
-fn head_of(b: &[u8; 6]) -> Head {
+fn head_of(b: [u8; 6]) -> Head {
+    let [mode, rms, acceptors, leaders, order_high, order_low] = b;
     let plan = Plan {
-        rms: b[1],
-        acceptors: b[2],
-        leaders: b[3],
-        order: message::order_of(b[4], b[5]),
+        rms,
+        acceptors,
+        leaders,
+        order: u16::from_be_bytes([order_high, order_low]),
     };
-    Head { mode: b[0], plan }
+    Head { mode, plan }
 }
 
-fn least(a: usize, b: usize) -> usize
-    ensures { result ≡ min a b }
-{
-    if a < b { a } else { b }
-}
-
-// 4,096 zeros.
-fn buffer() -> [u8; 4096]
-    ensures { 4096 ≡ length result }
-{
-    [0; 4096]
-}
-
-// 65,536 zeros.
-fn large_buffer() -> [u8; 65536]
-    ensures { 65536 ≡ length result }
-{
-    [0; 65536]
-}
-
-// Reads until the buffer is full or the input ends: how many bytes begin the buffer.
-fn read_full<R: Read>(input: &mut R, buffer: &mut [u8]) -> io::Result<usize>
-    ensures { IfOk result (λ count. count ≤ length buffer.new) }
-{
-    let mut done: usize = 0;
-    while done < buffer.len() {
-        let more = input.read(&mut buffer[done..])?;
-        if more == 0 {
-            return Ok(done);
-        }
-        done += more;
-    }
-    Ok(done)
-}
-
-fn say<W: Write>(output: &mut W, words: &[u8]) -> io::Result<()> {
-    output.write_all(words)
-}
-
-fn say_number<W: Write>(output: &mut W, number: u64) -> io::Result<()> {
-    write!(output, "{number}")
+// The tables W, Q, N and I of a record, and the summary.
+#[derive(Drop)]
+struct Tables<'a> {
+    states: &'a mut [u8],
+    votes: &'a mut [u8],
+    network: &'a mut [u8],
+    inboxes: &'a mut [u8],
+    summary: &'a mut [u8],
 }
 
 // One byte more of a number that is written with the lowest byte first and read from its end, modulo the prime.
@@ -105,140 +72,73 @@ fn fold_byte(sum: u32, byte: u8) -> u32 {
 }
 
 fn fold(bytes: &[u8], after: u32) -> u32 {
-    let mut sum = after;
-    let mut i = bytes.len();
-    while 0 < i {
-        i -= 1;
-        sum = fold_byte(sum, bytes[i]);
-    }
-    sum
+    bytes
+        .iter()
+        .rev()
+        .fold(after, |sum, byte| fold_byte(sum, *byte))
 }
 
 // The bytes of W, Q, N, I and the summary, one after the other, as one number modulo the prime, the lowest byte first.
-fn say_digest<W: Write>(
-    output: &mut W,
-    states: &[u8],
-    votes: &[u8],
-    network: &[u8],
-    inboxes: &[u8],
-    summary: &[u8],
-) -> io::Result<()> {
-    let last = fold(inboxes, fold(summary, 0));
-    let sum = fold(states, fold(votes, fold(network, last)));
+fn say_digest<W: Write>(output: &mut W, tables: &Tables<'_>) -> io::Result<()> {
+    let last = fold(tables.inboxes, fold(tables.summary, 0));
+    let sum = fold(
+        tables.states,
+        fold(tables.votes, fold(tables.network, last)),
+    );
     write!(output, " {sum:08x}\n")
 }
 
-// The answer: 0 with the slot, 0 with - for quiet, or the refusal.
-fn say_sent<W: Write>(output: &mut W, sent: Sent) -> io::Result<()> {
-    match sent {
-        Sent::Slot(slot) => {
-            say(output, b"0 ")?;
-            say_number(output, slot as u64)
-        }
-        Sent::Quiet => say(output, b"0 -"),
-    }
-}
-
-fn say_answer<W: Write>(output: &mut W, answer: Answer) -> io::Result<()> {
-    match answer {
-        Answer::Accepted(sent) => say_sent(output, sent),
-        Answer::Refused(number) => say_number(output, number as u64),
-    }
-}
-
 // What an opening and a list call answer: 0 or the refusal.
-fn say_judged<W: Write>(output: &mut W, call: &[u8], judged: Judged) -> io::Result<()> {
-    say(output, call)?;
-    say_number(output, change::judged_number(judged) as u64)
+fn say_judged<W: Write>(output: &mut W, call: &str, judged: Result<(), Refusal>) -> io::Result<()> {
+    let number = message::number_of(judged);
+    write!(output, "{call} {number}")
 }
 
-// Where the zeros at the end of a table begin.
-fn used_end(table: &[u8]) -> usize
-    ensures { result ≤ length table.now }
-{
-    let mut end = table.len();
-    while 0 < end {
-        if table[end - 1] != 0 {
-            return end;
-        }
-        end -= 1;
+// The bytes of a table before the zeros at its end.
+fn used(table: &[u8]) -> &[u8] {
+    match table.iter().rposition(|byte| *byte != 0) {
+        Some(last) => &table[..=last],
+        None => &[],
     }
-    0
-}
-
-fn say_hex<W: Write>(output: &mut W, byte: u8) -> io::Result<()> {
-    write!(output, "{byte:02x}")
-}
-
-fn say_bytes<W: Write>(output: &mut W, bytes: &[u8]) -> io::Result<()> {
-    for byte in bytes {
-        say_hex(output, *byte)?;
-    }
-    Ok(())
 }
 
 // A table in hexadecimal, without the zeros at its end.
 fn say_table<W: Write>(output: &mut W, table: &[u8]) -> io::Result<()> {
-    let end = used_end(table);
-    let used = &table[..end];
-    say(output, b"[")?;
-    say_bytes(output, used)?;
-    say(output, b"]\n")
+    let hex = Hex(used(table));
+    write!(output, "[{hex}]\n")
 }
 
-fn say_tables<W: Write>(
-    output: &mut W,
-    mode: u8,
-    states: &[u8],
-    votes: &[u8],
-    network: &[u8],
-    inboxes: &[u8],
-    summary: &[u8],
-) -> io::Result<()> {
+fn say_tables<W: Write>(output: &mut W, mode: u8, tables: &Tables<'_>) -> io::Result<()> {
     if 4 <= mode {
         return Ok(());
     }
-    say_table(output, states)?;
-    say_table(output, votes)?;
-    say_table(output, network)?;
-    say_table(output, inboxes)?;
-    say_table(output, summary)
+    say_table(output, tables.states)?;
+    say_table(output, tables.votes)?;
+    say_table(output, tables.network)?;
+    say_table(output, tables.inboxes)?;
+    say_table(output, tables.summary)
 }
 
-// A number of two bytes, the higher first.
-fn number_of(high: u8, low: u8) -> usize {
-    256 * (high as usize) + (low as usize)
-}
-
-fn pair_of(b: &[u8; 2]) -> usize {
-    number_of(b[0], b[1])
-}
-
-// Where the input ends before, 0.
+// A number of two bytes, the higher first. Where the input ends before, 0.
 fn read_number<R: Read>(input: &mut R) -> io::Result<usize> {
-    let mut bytes = [0u8; 2];
-    if read_full(input, &mut bytes)? < 2 {
+    let mut bytes = [0; 2];
+    if console::read_input(input, &mut bytes)? < 2 {
         return Ok(0);
     }
-    Ok(pair_of(&bytes))
+    Ok(u16::from_be_bytes(bytes) as usize)
 }
 
-// Reads where a part at the start of the buffer ends.
-fn read_end<R: Read>(input: &mut R, buffer: &[u8]) -> io::Result<usize>
-    ensures { IfOk result (λ end. end ≤ length buffer.now) }
-{
-    let number = read_number(input)?;
-    Ok(least(number, buffer.len()))
+// Reads where a part at the start of the buffer ends, and lends the part.
+fn read_end<'a, R: Read>(input: &mut R, buffer: &'a mut [u8]) -> io::Result<&'a mut [u8]> {
+    let end = read_number(input)?.min(buffer.len());
+    Ok(&mut buffer[..end])
 }
 
 // The same, and then the part's bytes.
-fn read_part<R: Read>(input: &mut R, buffer: &mut [u8]) -> io::Result<usize>
-    ensures { IfOk result (λ end. end ≤ length buffer.new) }
-{
-    let end = read_end(input, buffer)?;
-    let part = &mut buffer[..end];
-    read_full(input, part)?;
-    Ok(end)
+fn read_part<'a, R: Read>(input: &mut R, buffer: &'a mut [u8]) -> io::Result<&'a mut [u8]> {
+    let part = read_end(input, buffer)?;
+    console::read_input(input, part)?;
+    Ok(part)
 }
 
 // Reads an event of the length, and makes it.
@@ -246,34 +146,31 @@ fn run_event<R: Read, W: Write>(
     input: &mut R,
     output: &mut W,
     plan: Plan,
-    states: &mut [u8],
-    votes: &mut [u8],
-    network: &mut [u8],
-    inboxes: &mut [u8],
-    summary: &mut [u8],
-    buffer: &mut [u8],
-    size: u8,
+    tables: &mut Tables<'_>,
+    event: &mut [u8],
 ) -> io::Result<()> {
-    let end = least(size as usize, buffer.len());
-    let event = &mut buffer[..end];
-    read_full(input, event)?;
-    let answer = record::step(plan, states, votes, network, inboxes, summary, event);
-    say_answer(output, answer)
-}
-
-// The answers before a list call, of which its first bytes are lent: every byte is AA, which is no number.
-fn lent_answers() -> [u8; 65536]
-    ensures { 65536 ≡ length result }
-{
-    [170; 65536]
+    console::read_input(input, event)?;
+    let answered = Answered(record::step(
+        plan,
+        tables.states,
+        tables.votes,
+        tables.network,
+        tables.inboxes,
+        tables.summary,
+        event,
+    ));
+    write!(output, "{answered}")
 }
 
 // A list call's answer, and those to its events.
-fn say_run<W: Write>(output: &mut W, judged: Judged, answers: &[u8]) -> io::Result<()> {
-    say_judged(output, b"run ", judged)?;
-    say(output, b" [")?;
-    say_bytes(output, answers)?;
-    say(output, b"]")
+fn say_run<W: Write>(
+    output: &mut W,
+    judged: Result<(), Refusal>,
+    answers: &[u8],
+) -> io::Result<()> {
+    say_judged(output, "run", judged)?;
+    let hex = Hex(answers);
+    write!(output, " [{hex}]")
 }
 
 // Reads how long the answers are, and a list, and makes the list call.
@@ -281,40 +178,35 @@ fn run_list<R: Read, W: Write>(
     input: &mut R,
     output: &mut W,
     plan: Plan,
-    states: &mut [u8],
-    votes: &mut [u8],
-    network: &mut [u8],
-    inboxes: &mut [u8],
-    summary: &mut [u8],
+    tables: &mut Tables<'_>,
     buffer: &mut [u8],
     lent: &mut [u8],
 ) -> io::Result<()> {
-    let room = read_end(input, lent)?;
-    let answers = &mut lent[..room];
-    let end = read_part(input, buffer)?;
-    let events = &buffer[..end];
+    let answers = read_end(input, lent)?;
+    let events = read_part(input, buffer)?;
     let judged = batch::run(
-        plan, states, votes, network, inboxes, summary, events, answers,
+        plan,
+        tables.states,
+        tables.votes,
+        tables.network,
+        tables.inboxes,
+        tables.summary,
+        events,
+        answers,
     );
     say_run(output, judged, answers)
 }
 
-// A list call, on buffers of its own.
+// A list call, on buffers of its own. Each byte of the answers is AA before it, which is no number.
 fn run_large<R: Read, W: Write>(
     input: &mut R,
     output: &mut W,
     plan: Plan,
-    states: &mut [u8],
-    votes: &mut [u8],
-    network: &mut [u8],
-    inboxes: &mut [u8],
-    summary: &mut [u8],
+    tables: &mut Tables<'_>,
 ) -> io::Result<()> {
-    let mut large = large_buffer();
-    let mut lent = lent_answers();
-    run_list(
-        input, output, plan, states, votes, network, inboxes, summary, &mut large, &mut lent,
-    )
+    let mut large = [0; 65536];
+    let mut lent = [0xaa; 65536];
+    run_list(input, output, plan, tables, &mut large, &mut lent)
 }
 
 // Makes the call that begins with the byte.
@@ -322,71 +214,45 @@ fn run_call<R: Read, W: Write>(
     input: &mut R,
     output: &mut W,
     plan: Plan,
-    states: &mut [u8],
-    votes: &mut [u8],
-    network: &mut [u8],
-    inboxes: &mut [u8],
-    summary: &mut [u8],
+    tables: &mut Tables<'_>,
     size: u8,
 ) -> io::Result<()> {
     if size == LIST {
-        return run_large(
-            input, output, plan, states, votes, network, inboxes, summary,
-        );
+        return run_large(input, output, plan, tables);
     }
-    let mut event = [0u8; 256];
-    run_event(
-        input, output, plan, states, votes, network, inboxes, summary, &mut event, size,
-    )
-}
-
-fn byte_of(b: &[u8; 1]) -> u8 {
-    b[0]
+    let mut event = [0; 256];
+    run_event(input, output, plan, tables, &mut event[..size as usize])
 }
 
 fn run_calls<R: Read, W: Write>(
     input: &mut R,
     output: &mut W,
     plan: Plan,
-    states: &mut [u8],
-    votes: &mut [u8],
-    network: &mut [u8],
-    inboxes: &mut [u8],
-    summary: &mut [u8],
+    tables: &mut Tables<'_>,
 ) -> io::Result<()> {
     let count = read_number(input)?;
     for _ in 0..count {
-        let mut byte = [0u8; 1];
-        if read_full(input, &mut byte)? < 1 {
+        let mut byte = [0; 1];
+        if console::read_input(input, &mut byte)? < 1 {
             return Ok(());
         }
-        let size = byte_of(&byte);
-        run_call(
-            input, output, plan, states, votes, network, inboxes, summary, size,
-        )?;
-        say_digest(output, states, votes, network, inboxes, summary)?;
+        let [size] = byte;
+        run_call(input, output, plan, tables, size)?;
+        say_digest(output, tables)?;
     }
     Ok(())
 }
 
 // What the tables hold before the first call, where it is given.
-fn read_tables<R: Read>(
-    input: &mut R,
-    mode: u8,
-    states: &mut [u8],
-    votes: &mut [u8],
-    network: &mut [u8],
-    inboxes: &mut [u8],
-    summary: &mut [u8],
-) -> io::Result<()> {
+fn read_tables<R: Read>(input: &mut R, mode: u8, tables: &mut Tables<'_>) -> io::Result<()> {
     if mode % 4 == 0 {
         return Ok(());
     }
-    read_part(input, states)?;
-    read_part(input, votes)?;
-    read_part(input, network)?;
-    read_part(input, inboxes)?;
-    read_part(input, summary)?;
+    read_part(input, tables.states)?;
+    read_part(input, tables.votes)?;
+    read_part(input, tables.network)?;
+    read_part(input, tables.inboxes)?;
+    read_part(input, tables.summary)?;
     Ok(())
 }
 
@@ -395,18 +261,21 @@ fn run_open<W: Write>(
     output: &mut W,
     mode: u8,
     plan: Plan,
-    states: &mut [u8],
-    votes: &mut [u8],
-    network: &mut [u8],
-    inboxes: &mut [u8],
-    summary: &mut [u8],
+    tables: &mut Tables<'_>,
 ) -> io::Result<()> {
     if mode % 4 == 2 {
         return Ok(());
     }
-    let judged = opening::open(plan, states, votes, network, inboxes, summary);
-    say_judged(output, b"open ", judged)?;
-    say_digest(output, states, votes, network, inboxes, summary)
+    let judged = opening::open(
+        plan,
+        tables.states,
+        tables.votes,
+        tables.network,
+        tables.inboxes,
+        tables.summary,
+    );
+    say_judged(output, "open", judged)?;
+    say_digest(output, tables)
 }
 
 fn run<R: Read, W: Write>(
@@ -414,18 +283,12 @@ fn run<R: Read, W: Write>(
     output: &mut W,
     mode: u8,
     plan: Plan,
-    states: &mut [u8],
-    votes: &mut [u8],
-    network: &mut [u8],
-    inboxes: &mut [u8],
-    summary: &mut [u8],
+    tables: &mut Tables<'_>,
 ) -> io::Result<()> {
-    read_tables(input, mode, states, votes, network, inboxes, summary)?;
-    run_open(output, mode, plan, states, votes, network, inboxes, summary)?;
-    run_calls(
-        input, output, plan, states, votes, network, inboxes, summary,
-    )?;
-    say_tables(output, mode, states, votes, network, inboxes, summary)
+    read_tables(input, mode, tables)?;
+    run_open(output, mode, plan, tables)?;
+    run_calls(input, output, plan, tables)?;
+    say_tables(output, mode, tables)
 }
 
 // Reads how long the tables are, and lends the first bytes of the buffers as these.
@@ -433,61 +296,42 @@ fn run_parts<R: Read, W: Write>(
     input: &mut R,
     output: &mut W,
     head: Head,
-    states: &mut [u8],
-    votes: &mut [u8],
-    network: &mut [u8],
-    inboxes: &mut [u8],
-    summary: &mut [u8],
+    buffers: &mut Tables<'_>,
 ) -> io::Result<()> {
-    let states_end = read_end(input, states)?;
-    let votes_end = read_end(input, votes)?;
-    let network_end = read_end(input, network)?;
-    let inboxes_end = read_end(input, inboxes)?;
-    let summary_end = read_end(input, summary)?;
-    let states_part = &mut states[..states_end];
-    let votes_part = &mut votes[..votes_end];
-    let network_part = &mut network[..network_end];
-    let inboxes_part = &mut inboxes[..inboxes_end];
-    let summary_part = &mut summary[..summary_end];
-    run(
-        input,
-        output,
-        head.mode,
-        head.plan,
-        states_part,
-        votes_part,
-        network_part,
-        inboxes_part,
-        summary_part,
-    )
+    let mut tables = Tables {
+        states: read_end(input, buffers.states)?,
+        votes: read_end(input, buffers.votes)?,
+        network: read_end(input, buffers.network)?,
+        inboxes: read_end(input, buffers.inboxes)?,
+        summary: read_end(input, buffers.summary)?,
+    };
+    run(input, output, head.mode, head.plan, &mut tables)
 }
 
 fn run_history<R: Read, W: Write>(input: &mut R, output: &mut W, head: Head) -> io::Result<()> {
-    let mut states = large_buffer();
-    let mut votes = large_buffer();
-    let mut network = large_buffer();
-    let mut inboxes = large_buffer();
-    let mut summary = buffer();
-    run_parts(
-        input,
-        output,
-        head,
-        &mut states,
-        &mut votes,
-        &mut network,
-        &mut inboxes,
-        &mut summary,
-    )
+    let mut states = [0; 65536];
+    let mut votes = [0; 65536];
+    let mut network = [0; 65536];
+    let mut inboxes = [0; 65536];
+    let mut summary = [0; 4096];
+    let mut buffers = Tables {
+        states: &mut states,
+        votes: &mut votes,
+        network: &mut network,
+        inboxes: &mut inboxes,
+        summary: &mut summary,
+    };
+    run_parts(input, output, head, &mut buffers)
 }
 
 // Makes the histories that stand in the input, one after the other.
 fn run_histories<R: Read, W: Write>(input: &mut R, output: &mut W) -> io::Result<()> {
     for _ in 0..MAX_HISTORIES {
-        let mut bytes = [0u8; 6];
-        if read_full(input, &mut bytes)? < 6 {
+        let mut bytes = [0; 6];
+        if console::read_input(input, &mut bytes)? < 6 {
             return Ok(());
         }
-        run_history(input, output, head_of(&bytes))?;
+        run_history(input, output, head_of(bytes))?;
     }
     Ok(())
 }

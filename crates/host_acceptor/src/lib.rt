@@ -1,6 +1,7 @@
 #![tactic(auto)]
 // The step of an acceptor, kind 3, for other languages: numbers and byte slices in, one number out. It is lent
 // Q (`votes`) and N (`network`). Its static library has no other role's code.
+// The counts and the order number come one by one, as hosts/c/paxos_commit.h declares them.
 ghost use Rattle.std.specs.Prelude.{◌≡◌};
 ghost use Rattle.acceptor.specs.Acceptor.{acceptor_step};
 ghost use Rattle.host_code.specs.Code.{plan_of, host_step, host_step_of};

@@ -4,6 +4,7 @@
 //     paxos_commit_run     many events in order, and an answer for each
 //
 // What the number means stands in specs/Code.antt.
+// The counts and the order number come one by one, as hosts/c/paxos_commit.h declares them.
 ghost use Rattle.std.specs.Prelude.{◌≡◌};
 ghost use Rattle.record.specs.Record.{tables_of};
 ghost use Rattle.batch.specs.Run.{record_run};
@@ -41,7 +42,7 @@ pub extern "C" fn paxos_commit_run(
         leaders,
         order,
     };
-    change::judged_number(batch::run(
+    message::number_of(batch::run(
         plan, states, votes, network, inboxes, summary, events, answers,
     ))
 }

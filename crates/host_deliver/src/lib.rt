@@ -4,6 +4,7 @@
 //     paxos_commit_deliver     what came to a host, put into its N
 //
 // What the number means stands in specs/Code.antt.
+// The counts and the order number come one by one, as hosts/c/paxos_commit.h declares them.
 ghost use Rattle.std.specs.Prelude.{◌≡◌};
 ghost use Rattle.deliver.specs.Deliver.{deliver_step};
 ghost use Rattle.host_code.specs.Code.{plan_of};

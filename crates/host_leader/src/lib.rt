@@ -1,6 +1,7 @@
 #![tactic(auto)]
 // The step of a leader, kinds 4 to 8, for other languages: numbers and byte slices in, one number out. It is lent
 // its inbox, its part of the summary and N (`network`). Its static library has no other role's code.
+// The counts and the order number come one by one, as hosts/c/paxos_commit.h declares them.
 ghost use Rattle.std.specs.Prelude.{◌≡◌};
 ghost use Rattle.leader.specs.Leader.{leader_step};
 ghost use Rattle.host_code.specs.Code.{plan_of};

@@ -11,12 +11,11 @@
 --     one_written           no number stands for two answers of the writer, whose eight bytes are bytes
 --     read_examples, write_examples, other_examples     numbers that the reader and the writer give, computed: every field has a value of its own
 -- Assumes nothing.
-use Rattle.std.specs.Prelude.{ℕ, ◌*◌, ◌-◌, ◌%◌, ◌≤◌, ◌<◌, Bool, not, List, [], ◌∷◌, ◌⊎◌, ◌↔◌, ◌≡◌, refl, length, get_or, take, drop, replicate}
+use Rattle.std.specs.Prelude.{ℕ, ◌*◌, ◌-◌, ◌%◌, ◌≤◌, ◌<◌, Bool, not, List, [], ◌∷◌, ◌⊎◌, ◌↔◌, ◌≡◌, refl, length, get_or, take, drop, replicate, None}
 use Rattle.std.proofs.Math.Bool.{true, false}
 use Rattle.std.proofs.Common.{inl, inr, sym, ◌∙◌, ap, arith}
 use Rattle.std.specs.Int.Count.{ones}
 use Rattle.message.specs.declared.Plan.{Plan}
-use Rattle.message.specs.declared.Vote.TheVariants.{None, Cast}
 use Rattle.message.specs.declared.Message.{Message}
 use Rattle.message.specs.declared.Message.TheVariants.{Phase1a, Phase1b, Phase2a, Phase2b, Decision}
 use Rattle.message.specs.declared.Written.{Written}
@@ -24,7 +23,7 @@ use Rattle.message.specs.Outcome.{Outcome, accepted, refused}
 use Rattle.message.proofs.Outcome.Laws.{accepted_inj, accepted_not_refused}
 use Rattle.message.specs.Outcome.{refuse_if}
 use Rattle.message.specs.Plan.{is_count, is_plan}
-use Rattle.message.specs.Form.{is_value, is_vote, is_in_range, bytes_of1b, bytes_of, message_length, slot_size, slot_of, is_known, map_length, fields_message, decode, has_order}
+use Rattle.message.specs.Form.{is_value, is_vote, is_in_range, bytes_of1b, bytes_of, message_length, slot_size, slot_of, is_known, map_length, fields_message, decode, has_order, cast_vote}
 use Rattle.message.proofs.Form.Laws.{unknown_length, message_cases, map_length_bytes_of, take_slot_of, drop_slot_of, first_bytes_of}
 use Rattle.message.specs.Codec.{read_message, written, write_message}
 use Rattle.message.proofs.Codec.Laws.{write_message_plan}
@@ -69,7 +68,7 @@ one_message m m' h h' e =
 pub fields_mean : (i a m b v : ℕ)
     → (fields_of (Phase1a i b) ≡ 0x29 ∷ i ∷ 0 ∷ 0 ∷ b ∷ 0 ∷ [])
     × (fields_of (Phase1b i a m None) ≡ 0x27 ∷ i ∷ a ∷ m ∷ 0 ∷ 0 ∷ [])
-    × (fields_of (Phase1b i a m (Cast b v)) ≡ 0x3F ∷ i ∷ a ∷ m ∷ b ∷ v ∷ [])
+    × (fields_of (Phase1b i a m (cast_vote b v)) ≡ 0x3F ∷ i ∷ a ∷ m ∷ b ∷ v ∷ [])
     × (fields_of (Phase2a i b v) ≡ 0x39 ∷ i ∷ 0 ∷ 0 ∷ b ∷ v ∷ [])
     × (fields_of (Phase2b i a b v) ≡ 0x3B ∷ i ∷ a ∷ 0 ∷ b ∷ v ∷ [])
     × (fields_of (Decision v) ≡ 0x30 ∷ 0 ∷ 0 ∷ 0 ∷ 0 ∷ v ∷ [])
@@ -78,7 +77,7 @@ fields_mean i a m b v = (refl, refl, refl, refl, refl, refl)
 pub message_means : (i a m b v : ℕ)
     → (message_of 0x29 i a m b v ≡ accepted (Phase1a i b))
     × (message_of 0x27 i a m b v ≡ accepted (Phase1b i a m None))
-    × (message_of 0x3F i a m b v ≡ accepted (Phase1b i a m (Cast b v)))
+    × (message_of 0x3F i a m b v ≡ accepted (Phase1b i a m (cast_vote b v)))
     × (message_of 0x39 i a m b v ≡ accepted (Phase2a i b v))
     × (message_of 0x3B i a m b v ≡ accepted (Phase2b i a b v))
     × (message_of 0x30 i a m b v ≡ accepted (Decision v))

@@ -3,23 +3,22 @@
 --     read_code                    the reader's answer: byte 0 the refusal or 0, bytes 1 to 6 the map and the fields
 --     host_write, written_code    the writer by map and fields; its answer: the eight bytes, or byte 1 the refusal
 -- Their laws are in proofs/CodeLaws.antt, those of the writer's number in proofs/CodeWriting.antt. Assumes nothing.
-use Rattle.std.specs.Prelude.{ℕ, ◌*◌, not, cond, List, [], ◌∷◌, eqb}
+use Rattle.std.specs.Prelude.{ℕ, ◌*◌, not, cond, List, [], ◌∷◌, eqb, None, Option, Some}
 use Rattle.message.specs.declared.Plan.{Plan}
 use Rattle.message.specs.declared.Vote.{Vote}
-use Rattle.message.specs.declared.Vote.TheVariants.{None, Cast}
 use Rattle.message.specs.declared.Message.{Message}
 use Rattle.message.specs.declared.Message.TheVariants.{Phase1a, Phase1b, Phase2a, Phase2b, Decision}
 use Rattle.message.specs.declared.Written.{Written}
 use Rattle.message.specs.Outcome.{Outcome, accepted, refused, refuse_if}
 use Rattle.message.specs.Plan.{is_plan}
-use Rattle.message.specs.Form.{map1a, map1b, map1b_vote, map2a, map2b, map_decision, is_known}
+use Rattle.message.specs.Form.{map1a, map1b, map1b_vote, map2a, map2b, map_decision, is_known, cast_vote}
 use Rattle.message.specs.Codec.{written, write_message}
 use Rattle.host_code.specs.Code.{packed}
 
 -- a 1b's map and fields
-abbrev pub fields_of1b : ℕ → ℕ → ℕ → Vote → List ℕ
+abbrev pub fields_of1b : ℕ → ℕ → ℕ → Option Vote → List ℕ
 fields_of1b ins acc mbal None = map1b ∷ ins ∷ acc ∷ mbal ∷ 0 ∷ 0 ∷ []
-fields_of1b ins acc mbal (Cast bal val) = map1b_vote ∷ ins ∷ acc ∷ mbal ∷ bal ∷ val ∷ []
+fields_of1b ins acc mbal (Some vote) = map1b_vote ∷ ins ∷ acc ∷ mbal ∷ vote.bal ∷ vote.val ∷ []
 
 -- the map, then ins, acc, mbal, bal and val, each 0 where the message has no such field
 abbrev pub fields_of : Message → List ℕ
@@ -35,7 +34,7 @@ unfoldable pub message_with : ℕ → ℕ → ℕ → ℕ → ℕ → ℕ → Me
 message_with map ins acc mbal bal val =
     cond (eqb map map1a) (Phase1a ins bal)
     (cond (eqb map map1b) (Phase1b ins acc mbal None)
-    (cond (eqb map map1b_vote) (Phase1b ins acc mbal (Cast bal val))
+    (cond (eqb map map1b_vote) (Phase1b ins acc mbal (cast_vote bal val))
     (cond (eqb map map2a) (Phase2a ins bal val)
     (cond (eqb map map2b) (Phase2b ins acc bal val)
     (Decision val)))))

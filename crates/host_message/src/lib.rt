@@ -6,16 +6,19 @@
 //     paxos_commit_length     how many bytes the form with this map has
 //
 // What the numbers mean stands in specs/Code.antt.
+// The counts and the order number come one by one, as hosts/c/paxos_commit.h declares them.
 ghost use Rattle.std.specs.Prelude.{◌*◌, ◌∷◌, ◌≡◌, length, get_or};
+ghost use Rattle.message.specs.Outcome.{outcome, refusal_number};
 ghost use Rattle.message.specs.Form.{map_length, decode};
 ghost use Rattle.message.specs.Codec.{read_message, write_message};
 ghost use Rattle.host_code.specs.Code.{plan_of, packed};
-ghost use Rattle.host_message.specs.Code.{fields_of, read_code, host_write, written_code};
+ghost use Rattle.host_message.specs.Code.{fields_of, message_of, read_code, host_write, written_code};
 
 use host_code::pack;
 use message::{
     ACC, BAL_1A, BAL_1B, BAL_2A, BAL_2B, INS, MAP_1A, MAP_1B, MAP_1B_VOTE, MAP_2A, MAP_2B,
-    MAP_DECISION, MBAL_1B, Message, Plan, VAL_1B, VAL_2A, VAL_2B, VAL_DECISION, Vote, Written,
+    MAP_DECISION, MBAL_1B, Message, Plan, Refusal, VAL_1B, VAL_2A, VAL_2B, VAL_DECISION, Vote,
+    Written,
 };
 
 // The number of a message's bytes: 0, the map, and ins, acc, mbal, bal and val, 0 for one that the message does not have. Each field is
@@ -24,15 +27,10 @@ fn message_code(bytes: &[u8]) -> u64
     requires { length bytes.now ≡ map_length (get_or bytes.now 0 0) }
     ensures { result ≡ packed (0 ∷ fields_of (decode bytes.now)) }
 {
-    let map = message::byte_at(bytes, 0);
-    if map == MAP_1A {
-        return pack(0, MAP_1A, bytes[INS], 0, 0, bytes[BAL_1A], 0, 0);
-    }
-    if map == MAP_1B {
-        return pack(0, MAP_1B, bytes[INS], bytes[ACC], bytes[MBAL_1B], 0, 0, 0);
-    }
-    if map == MAP_1B_VOTE {
-        return pack(
+    match message::byte_at(bytes, 0) {
+        MAP_1A => pack([0, MAP_1A, bytes[INS], 0, 0, bytes[BAL_1A], 0, 0]),
+        MAP_1B => pack([0, MAP_1B, bytes[INS], bytes[ACC], bytes[MBAL_1B], 0, 0, 0]),
+        MAP_1B_VOTE => pack([
             0,
             MAP_1B_VOTE,
             bytes[INS],
@@ -41,13 +39,9 @@ fn message_code(bytes: &[u8]) -> u64
             bytes[BAL_1B],
             bytes[VAL_1B],
             0,
-        );
-    }
-    if map == MAP_2A {
-        return pack(0, MAP_2A, bytes[INS], 0, 0, bytes[BAL_2A], bytes[VAL_2A], 0);
-    }
-    if map == MAP_2B {
-        return pack(
+        ]),
+        MAP_2A => pack([0, MAP_2A, bytes[INS], 0, 0, bytes[BAL_2A], bytes[VAL_2A], 0]),
+        MAP_2B => pack([
             0,
             MAP_2B,
             bytes[INS],
@@ -56,10 +50,18 @@ fn message_code(bytes: &[u8]) -> u64
             bytes[BAL_2B],
             bytes[VAL_2B],
             0,
-        );
+        ]),
+        _ => pack([
+            0,
+            MAP_DECISION,
+            0,
+            0,
+            0,
+            0,
+            message::byte_at(bytes, VAL_DECISION),
+            0,
+        ]),
     }
-    let val = message::byte_at(bytes, VAL_DECISION);
-    pack(0, MAP_DECISION, 0, 0, 0, 0, val, 0)
 }
 
 // The reader. Byte 0 of the number, the lowest, is 0 where the slice is exactly one message; byte 1 is then its map, and bytes 2 to 6
@@ -80,18 +82,17 @@ pub extern "C" fn paxos_commit_read(
         leaders,
         order,
     };
-    let number = refusal::message_refusal(plan, bytes);
-    if number != 0 {
-        return number as u64;
+    match refusal::message_refusal(plan, bytes) {
+        Ok(()) => message_code(bytes),
+        Err(refusal) => refusal.number() as u64,
     }
-    message_code(bytes)
 }
 
 // The number of a writer's refusal.
-fn refusal_code(number: u8) -> u64
-    ensures { result ≡ 256 * number }
+fn refusal_code(refusal: Refusal) -> u64
+    ensures { result ≡ 256 * refusal_number refusal }
 {
-    256 * (number as u64)
+    256 * (refusal.number() as u64)
 }
 
 // The number of a writer's answer.
@@ -99,10 +100,9 @@ fn written_code(written: Written) -> u64
     ensures { result ≡ written_code written }
 {
     if written.number != 0 {
-        return refusal_code(written.number);
+        return 256 * (written.number as u64);
     }
-    let b = written.bytes;
-    pack(b[0], b[1], b[2], b[3], b[4], b[5], b[6], b[7])
+    pack(written.bytes)
 }
 
 // The number of what the writer answers for a message.
@@ -112,10 +112,34 @@ fn write_code(plan: Plan, m: Message) -> u64
     written_code(codec::write_message(plan, m))
 }
 
-// The writer, of the message with a map and fields, of which those that it does not have are not looked at. The number's bytes, the
-// lowest first, are the message followed by zeros; its first byte is the map, which is never 0 and stands for the length
-// (paxos_commit_length). Else byte 0 is 0 and byte 1 the refusal: 1, 15 for another map, or 17. Document 01's writer has no 15, since it
-// is given a message, which has a kind. The maps are in two groups of three, as in `refusal`.
+// The message with a map and fields, of which those that it does not have are not looked at; 15 for another map.
+fn message_of(map: u8, ins: u8, acc: u8, mbal: u8, bal: u8, val: u8) -> Result<Message, Refusal>
+    ensures { outcome result ≡ message_of map ins acc mbal bal val }
+{
+    match map {
+        MAP_1A => Ok(Message::Phase1a { ins, bal }),
+        MAP_1B => Ok(Message::Phase1b {
+            ins,
+            acc,
+            mbal,
+            vote: None,
+        }),
+        MAP_1B_VOTE => Ok(Message::Phase1b {
+            ins,
+            acc,
+            mbal,
+            vote: Some(Vote { bal, val }),
+        }),
+        MAP_2A => Ok(Message::Phase2a { ins, bal, val }),
+        MAP_2B => Ok(Message::Phase2b { ins, acc, bal, val }),
+        MAP_DECISION => Ok(Message::Decision { val }),
+        _ => Err(Refusal::Map),
+    }
+}
+
+// The writer, of the message with a map and fields. The number's bytes, the lowest first, are the message followed by zeros; its first
+// byte is the map, which is never 0 and stands for the length (paxos_commit_length). Else byte 0 is 0 and byte 1 the refusal: 1, 15 for
+// another map, or 17. Document 01's writer has no 15, since it is given a message, which has a kind.
 #[unsafe(no_mangle)]
 pub extern "C" fn paxos_commit_write(
     rms: u8,
@@ -138,45 +162,12 @@ pub extern "C" fn paxos_commit_write(
         order,
     };
     if !message::is_plan(plan) {
-        return refusal_code(1);
+        return refusal_code(Refusal::Plan);
     }
-    if !message::is_known(map) {
-        return refusal_code(15);
+    match message_of(map, ins, acc, mbal, bal, val) {
+        Ok(m) => write_code(plan, m),
+        Err(refusal) => refusal_code(refusal),
     }
-    if map < MAP_2A {
-        if map == MAP_1A {
-            return write_code(plan, Message::Phase1a { ins, bal });
-        }
-        if map == MAP_1B {
-            let vote = Vote::None;
-            return write_code(
-                plan,
-                Message::Phase1b {
-                    ins,
-                    acc,
-                    mbal,
-                    vote,
-                },
-            );
-        }
-        return write_code(plan, Message::Decision { val });
-    }
-    if map == MAP_2A {
-        return write_code(plan, Message::Phase2a { ins, bal, val });
-    }
-    if map == MAP_2B {
-        return write_code(plan, Message::Phase2b { ins, acc, bal, val });
-    }
-    let vote = Vote::Cast { bal, val };
-    write_code(
-        plan,
-        Message::Phase1b {
-            ins,
-            acc,
-            mbal,
-            vote,
-        },
-    )
 }
 
 // How many bytes the message has that begins with this map; 0 for what is no map, as the 0 that a refusal of the writer begins with.

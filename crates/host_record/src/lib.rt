@@ -7,13 +7,15 @@
 //     paxos_commit_ending     how the order stands: open, committed or aborted
 //
 // What the numbers mean stands in specs/Code.antt and in the crate host_code.
+// The counts and the order number come one by one, as hosts/c/paxos_commit.h declares them.
 ghost use Rattle.std.specs.Prelude.{◌≡◌};
+ghost use Rattle.message.specs.Outcome.{outcome};
 ghost use Rattle.record.specs.Record.{tables_of, record_open, record_step};
 ghost use Rattle.host_code.specs.Code.{plan_of};
 ghost use Rattle.host_record.specs.Code.{host_opening, host_opening_of, host_event, host_event_of, ending_number, ending_outcome, ending_code};
 
 use ending::Ending;
-use message::Plan;
+use message::{Plan, Refusal};
 
 // Opens a record: 0, and every byte of the five tables 0. Refused: 1, 2 or 20, and no byte changes.
 #[unsafe(no_mangle)]
@@ -38,7 +40,7 @@ pub extern "C" fn paxos_commit_open(
         leaders,
         order,
     };
-    change::judged_number(opening::open(plan, states, votes, network, inboxes, summary))
+    message::number_of(opening::open(plan, states, votes, network, inboxes, summary))
 }
 
 // The event call. Accepted: the slot of N where the sent message stands, or 65535 for quiet (kinds 2 and 4). Refused: 65536 and the
@@ -69,7 +71,7 @@ pub extern "C" fn paxos_commit_step(
     host_code::answer_code(record::step(plan, states, votes, network, inboxes, summary, event))
 }
 
-// The number of how an order stands.
+// The number of how an order stands: the C interface's.
 fn ending_number(ending: Ending) -> u32
     ensures { result ≡ ending_number ending }
 {
@@ -78,6 +80,22 @@ fn ending_number(ending: Ending) -> u32
         Ending::Committed => 1,
         Ending::Aborted => 2,
     }
+}
+
+// How the order stands whose W is lent.
+fn ending_of(plan: Plan, states: &[u8]) -> Result<Ending, Refusal>
+    ensures { outcome result ≡ ending_outcome plan states.now }
+{
+    if !message::is_plan(plan) {
+        return Err(Refusal::Plan);
+    }
+    if states.len() != plan.rms as usize {
+        return Err(Refusal::Length);
+    }
+    if !rm::are_states(states) {
+        return Err(Refusal::State);
+    }
+    Ok(ending::ending_of(states))
 }
 
 // How the order stands whose W is lent: 0 open, 1 committed (every weight is), 2 aborted (every weight is). Refused: 65536 and the number,
@@ -98,14 +116,8 @@ pub extern "C" fn paxos_commit_ending(
         leaders,
         order,
     };
-    if !message::is_plan(plan) {
-        return 65537;
+    match ending_of(plan, states) {
+        Ok(ending) => ending_number(ending),
+        Err(refusal) => 65536 + refusal.number() as u32,
     }
-    if states.len() != rms as usize {
-        return 65538;
-    }
-    if !rm::are_states(states) {
-        return 65539;
-    }
-    ending_number(ending::ending_of(states))
 }

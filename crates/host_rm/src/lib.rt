@@ -1,6 +1,7 @@
 #![tactic(auto)]
 // The step of a resource manager (document 01: a weight), kinds 0, 1 and 2, for other languages: numbers and byte slices in, one
 // number out. It is lent W (`states`) and N (`network`). Its static library has no other role's code.
+// The counts and the order number come one by one, as hosts/c/paxos_commit.h declares them.
 ghost use Rattle.std.specs.Prelude.{◌≡◌};
 ghost use Rattle.rm.specs.Rm.{rm_step};
 ghost use Rattle.host_code.specs.Code.{plan_of, host_step, host_step_of};

@@ -11,14 +11,14 @@ use lib.Dec.{eqb}
 use lib.ListN.{get_or}
 use borrow.Author.Tests.{eq-eqb, ne_eqb}
 use Rattle.message.specs.declared.Vote.{Vote}
-use Rattle.message.specs.declared.Vote.TheVariants.{Cast}
 use Rattle.message.specs.declared.Message.{Message}
-use Rattle.message.specs.Form.{map1b, map1b_vote, map2a}
+use Rattle.message.specs.Form.{map1b, map1b_vote, map2a, cast_vote}
 use Rattle.quorum.specs.Mask.{join}
 use Rattle.inbox.specs.declared.Gathered.{Gathered}
 use Rattle.inbox.specs.Inbox.{higher}
 use Rattle.inbox.specs.Inbox.Slots.{message_at, slot_cases, message_1b, message_1b_vote, message_2a}
 use Rattle.inbox.specs.Inbox.Reports.{report_step, higher_none}
+use Rattle.std.specs.Prelude.{Option}
 
 module _ (i b : ℕ) (g : Gathered) (t : List ℕ) (at : ℕ) where
   abbrev map : ℕ
@@ -74,7 +74,7 @@ module _ (i b : ℕ) (g : Gathered) (t : List ℕ) (at : ℕ) where
         rw (message_1b t at k, eq-eqb (byte 1) i e, eq-eqb (byte 3) b l)
         (λ j. record { proposed = g.proposed; mask = joined j; vote = sym (higher_none g.vote) j })
 
-    pub step_1b_vote : map ≡ map1b_vote → (vote : Vote) → vote ≡ higher g.vote (Cast (byte 4) (byte 5))
+    pub step_1b_vote : map ≡ map1b_vote → (vote : Option Vote) → vote ≡ higher g.vote (cast_vote (byte 4) (byte 5))
         → ◌≡◌ {A = Gathered} (record { proposed = g.proposed; mask = mask; vote = vote }) (report_step i b g (message_at t at))
     unfolding report_step
     step_1b_vote k vote best =

@@ -5,13 +5,13 @@
 --     gathers_passed                     slots that are passed add nothing to what was gathered
 -- Assumes nothing.
 use Prim.Native.Nat.{ℕ, zero, suc, ◌+◌, ◌-◌, ◌*◌, ◌%◌, ◌≤◌, ◌<◌}
-use mathlib.Core.Bool.{◌&&◌, false}
+use mathlib.Core.Bool.{Bool, ◌&&◌, ◌||◌, false}
 use mathlib.Core.List.{List}
 use mathlib.Core.Path.{◌≡◌, ◌∙◌, subst}
 use native.Mathlib.Decide.{ℕ_discrete, dec_le}
 use native.Mathlib.Nat.{add-zero, le_trans}
 use native.Mathlib.Omega.{arith}
-use lib.Bits.{bit_and, bit_or, and_block, and_mask, and_zero_r}
+use lib.Bits.{bit_and, and_block, and_mask, and_zero_r}
 use lib.Dec.{eqb, lit<}
 use lib.ListN.{get_or}
 use borrow.Author.Tests.{eq-eqb, ne_eqb}
@@ -21,7 +21,7 @@ use Rattle.slots.specs.Table.{slot_size}
 use Rattle.slots.specs.Table.Words.{Word, WordFrom}
 use Rattle.slots.proofs.Table.Words.Laws.{below_next}
 use Rattle.slots.specs.Table.Scan.{edge}
-use Rattle.slots.proofs.Zeros.{or_none}
+use Rattle.std.proofs.lemmas.Bool.{or_parts}
 use Rattle.inbox.specs.declared.Gathered.{Gathered}
 use Rattle.inbox.specs.Inbox.Slots.{message_at, ahead, ahead_next}
 use Rattle.inbox.specs.Inbox.Reports.{report_step, Gathers, gathers_next}
@@ -78,11 +78,11 @@ module _ (i b : ℕ) (t : List ℕ) (from : ℕ) where
       }
 
   -- one slot of a block further: `any` of the slots so far, and `x` of the next
-  pub all_met : (j any x : ℕ) → (any ≡ 0 → AllPassed i b t from (from + j)) → (x ≡ 0 → Passed i b t (from + j))
-      → bit_or any x ≡ 0 → AllPassed i b t from (from + (j + 1))
+  pub all_met : (j : ℕ) (any x : Bool) → (any ≡ false → AllPassed i b t from (from + j)) → (x ≡ false → Passed i b t (from + j))
+      → (any || x) ≡ false → AllPassed i b t from (from + (j + 1))
   all_met j any x before last none =
       let next : from + j + 1 ≡ from + (j + 1) = omega arith in
-      let both = or_none any x none in
+      let both = or_parts any x none in
       rw next at (all_next (from + j) (before both.0) (last both.1))
 
 not_both : (x i y b : ℕ) → (x ≡ i → y ≡ b → ⊥) → (eqb x i && eqb y b) ≡ false

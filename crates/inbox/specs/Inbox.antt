@@ -12,15 +12,15 @@ pub mod Votes
 pub mod Members
 pub mod Quantifiers
 pub mod Blocks
-use Rattle.std.specs.Prelude.{ℕ, zero, suc, Bool, true, false, ◌&&◌, ◌||◌, cond, List, [], ◌∷◌, ltb, eqb, length}
+use Rattle.std.specs.Prelude.{ℕ, zero, suc, Bool, true, false, ◌&&◌, ◌||◌, cond, List, [], ◌∷◌, ltb, eqb, length, None, Option, Some}
 use Rattle.message.specs.declared.Plan.{Plan}
 use Rattle.message.specs.declared.Vote.{Vote}
-use Rattle.message.specs.declared.Vote.TheVariants.{None, Cast}
 use Rattle.message.specs.declared.Message.{Message}
 use Rattle.message.specs.declared.Message.TheVariants.{Phase1a, Phase1b, Phase2a, Phase2b, Decision}
 use Rattle.message.specs.Plan.{is_plan}
 use Rattle.quorum.specs.Quorum.{is_quorum}
 use Rattle.inbox.specs.declared.Reports as Declared
+use Rattle.message.specs.Form.{cast_vote}
 
 unfoldable pub any : (Message → Bool) → List Message → Bool
 any test [] = false
@@ -51,27 +51,27 @@ is2b i b v a (Phase2b ins acc bal val) = eqb ins i && (eqb bal b && (eqb val v &
 is2b i b v a (Decision _) = false
 
 -- of two vote reports the one with the higher ballot, and of equals the first
-unfoldable pub higher : Vote → Vote → Vote
+unfoldable pub higher : Option Vote → Option Vote → Option Vote
 higher None second = second
-higher (Cast b v) None = Cast b v
-higher (Cast b v) (Cast b' v') = cond (ltb b b') (Cast b' v') (Cast b v)
+higher (Some v) None = Some v
+higher (Some v) (Some w) = cond (ltb v.bal w.bal) (Some w) (Some v)
 
 -- the vote report in a 1b of instance i with mbal b
-unfoldable pub report_of : ℕ → ℕ → Message → Vote
+unfoldable pub report_of : ℕ → ℕ → Message → Option Vote
 report_of i b (Phase1a _ _) = None
 report_of i b (Phase1b ins acc mbal vote) = cond (eqb ins i && eqb mbal b) vote None
 report_of i b (Phase2a _ _ _) = None
 report_of i b (Phase2b _ _ _ _) = None
 report_of i b (Decision _) = None
 
-unfoldable pub highest_report : ℕ → ℕ → List Message → Vote
+unfoldable pub highest_report : ℕ → ℕ → List Message → Option Vote
 highest_report i b [] = None
 highest_report i b (m ∷ ms) = higher (report_of i b m) (highest_report i b ms)
 
 -- 2 where none reports a vote
-unfoldable pub proposal : Vote → ℕ
+unfoldable pub proposal : Option Vote → ℕ
 proposal None = 2
-proposal (Cast b v) = v
+proposal (Some vote) = vote.val
 
 -- the acceptors with a 2b of (i, b, v) are a majority
 unfoldable pub chosen : Plan → List Message → ℕ → ℕ → ℕ → Bool

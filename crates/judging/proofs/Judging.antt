@@ -5,16 +5,13 @@
 -- Assumes nothing.
 use Prim.Native.Nat.{ℕ}
 use mathlib.Core.Bool.{Bool, true, false, not}
-use mathlib.Core.Path.{◌≡◌, sym, ◌∙◌, ap}
+use mathlib.Core.Path.{◌≡◌, sym}
 use borrow.Author.Tests.{not-false}
 use Rattle.message.specs.declared.Plan.{Plan}
 use Rattle.message.specs.Outcome.{Outcome, accepted, refused, refuse_if}
 use Rattle.message.proofs.Outcome.Laws.{accepted_not_refused, refuse_if_accepted}
 use Rattle.message.specs.Plan.{is_plan}
 use Rattle.message.proofs.Guards.{pass}
-use Rattle.change.specs.declared.Judged.{Judged}
-use Rattle.change.specs.declared.Judged.TheVariants as Judgements
-use Rattle.change.specs.Change.{judged_outcome}
 use Rattle.opening.specs.Opening.{Tables, are_lengths, lengths_judged}
 use Rattle.judging.specs.Judging.{record_judged}
 
@@ -26,16 +23,16 @@ two_rows true b i j k x rest e = e
 two_rows false true i j k x rest e = e
 two_rows false false i j k x rest e = absurd (accepted_not_refused e)
 
-module _ (p : Plan) (t : Tables) (judged : Judged) (of_judged : judged_outcome judged ≡ lengths_judged p t) where
-  pub lengths_refused : (k : ℕ) → judged ≡ Judgements.Refused k → judged_outcome judged ≡ record_judged p t
+module _ (p : Plan) (t : Tables) where
+  pub lengths_refused : (k : ℕ) → refused k ≡ lengths_judged p t → refused k ≡ record_judged p t
   unfolding lengths_judged record_judged
-  lengths_refused k e = ap judged_outcome e ∙ two_rows (not (is_plan p)) (not (are_lengths p t)) 1 2 k tt _ (sym (ap judged_outcome e) ∙ of_judged)
+  lengths_refused k e = two_rows (not (is_plan p)) (not (are_lengths p t)) 1 2 k tt _ e
 
-  module _ (e : judged ≡ Judgements.Sound) where
+  module _ (sound : accepted tt ≡ lengths_judged p t) where
     rows : (not (is_plan p) ≡ false) × (not (are_lengths p t) ≡ false)
     unfolding lengths_judged
     rows =
-        let plan = refuse_if_accepted (not (is_plan p)) _ _ _ (sym of_judged ∙ ap judged_outcome e) in
+        let plan = refuse_if_accepted (not (is_plan p)) _ _ _ (sym sound) in
         (plan.0, (refuse_if_accepted (not (are_lengths p t)) _ _ _ plan.1).0)
 
     pub lengths_plan : is_plan p ≡ true

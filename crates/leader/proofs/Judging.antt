@@ -5,7 +5,7 @@
 --     call_unsound          a summary that is none
 --     call_sound            both sound: what was then performed, with its marks, is the call
 --     decided_same          Decided by the bytes of an inbox is what its messages say
---     marks_receipt, marks_nothing, marks_other     what `mark_receipt` does
+--     marks_receipt, marks_other     what `mark_receipt` does
 --     performed             what was evaluated is applied and marked
 -- Assumes nothing.
 use Prim.Native.Nat.{ℕ}
@@ -23,9 +23,7 @@ use Rattle.slots.specs.View.{View, view_table}
 use Rattle.slots.specs.View.Bytes.{view_bytes}
 use Rattle.slots.proofs.View.Laws.{view_judged}
 use Rattle.change.specs.declared.Sent.{Sent}
-use Rattle.change.specs.declared.Answer.{Answer}
-use Rattle.change.specs.declared.Answer.TheVariants as Answers
-use Rattle.change.specs.Change.{Step, refusal, answer_outcome, applied}
+use Rattle.change.specs.Change.{Step, refusal, applied}
 use Rattle.change.proofs.Stepping.{step_performed}
 use Rattle.event.specs.Event.{kind_of, slot_number}
 use Rattle.inbox.specs.Inbox.{decided}
@@ -56,18 +54,14 @@ decided_same p inbox plan same =
     ap (λ (ms : List Message). (λ (i v : ℕ). is_plan p && decided p ms i v)) same
     ∙ ap (λ (b : Bool). (λ (i v : ℕ). b && decided p (messages p inbox) i v)) plan
 
--- what an event does to the summary, by the answer
-module _ (d : ℕ → ℕ → Bool) (net : View) (e : List ℕ) (answer : Answer) (summary : List ℕ) where
-  pub marks_nothing : (k : ℕ) → answer ≡ Answers.Refused k → summary ≡ summary_after d net e (answer_outcome answer) summary
-  marks_nothing k is = rw is
+-- what an accepted event does to the summary
+module _ (d : ℕ → ℕ → Bool) (net : View) (e summary : List ℕ) (kind : ℕ) (of-kind : kind ≡ kind_of e) (sent : Sent) where
+  pub marks_other : (kind ≡ 4 → ⊥) → summary ≡ summary_after d net e (accepted sent) summary
+  marks_other h = rw (ne_eqb (kind_of e) 4 (λ k. h (of-kind ∙ k)))
 
-  module _ (sent : Sent) (is : answer ≡ Answers.Accepted sent) (kind : ℕ) (of-kind : kind ≡ kind_of e) where
-    pub marks_other : (kind ≡ 4 → ⊥) → summary ≡ summary_after d net e (answer_outcome answer) summary
-    marks_other h = rw (is, ne_eqb (kind_of e) 4 (λ k. h (of-kind ∙ k)))
-
-    pub marks_receipt : kind ≡ 4 → (k : ℕ) → k ≡ slot_number e → (s : List ℕ) → s ≡ marked_at d summary (net.slot k)
-        → s ≡ summary_after d net e (answer_outcome answer) summary
-    marks_receipt h k of-k s done = rw (is, eq-eqb (kind_of e) 4 (sym of-kind ∙ h), ← of-k) done
+  pub marks_receipt : kind ≡ 4 → (k : ℕ) → k ≡ slot_number e → (s : List ℕ) → s ≡ marked_at d summary (net.slot k)
+      → s ≡ summary_after d net e (accepted sent) summary
+  marks_receipt h k of-k s done = rw (eq-eqb (kind_of e) 4 (sym of-kind ∙ h), ← of-k) done
 
 pub performed : (p : Plan) (summary e : List ℕ) (s s' : Step) → s ≡ s'
     → (summary' : List ℕ) → summary' ≡ summary_after (decided_bytes p s.table) (view_bytes p s.network) e s.answer summary

@@ -15,17 +15,15 @@
 pub mod Sound
 pub mod Updates
 pub mod Received
-use Rattle.std.specs.Prelude.{ℕ, Bool, not, cond, List, ltb, eqb, length}
+use Rattle.std.specs.Prelude.{ℕ, Bool, not, cond, List, ltb, eqb, length, None, Result}
 use Rattle.message.specs.declared.Plan.{Plan}
 use Rattle.message.specs.declared.Message.{Message}
 use Rattle.message.specs.declared.Message.TheVariants.{Phase1a, Phase1b, Phase2a, Phase2b, Decision}
 use Rattle.message.specs.Outcome.{Outcome, accepted, refused, and_then, refuse_if}
 use Rattle.message.specs.Plan.{is_plan}
-use Rattle.slots.specs.declared.Store.TheVariants.{Keep}
 use Rattle.slots.specs.Table.{is_table_length, is_table, messages}
 use Rattle.slots.specs.View.{View, view_table, sending}
 use Rattle.change.specs.declared.Change.{Change}
-use Rattle.change.specs.declared.Answer.{Answer}
 use Rattle.change.specs.declared.Sent.{Sent}
 use Rattle.change.specs.declared.Sent.TheVariants.{Slot, Quiet}
 use Rattle.change.specs.declared.Update.TheVariants.{Inbox}
@@ -33,6 +31,7 @@ use Rattle.change.specs.Change.{Step, step_of, applied}
 use Rattle.event.specs.Event.{kind_of, who_of, high_of, low_of, slot_number, is_event}
 use Rattle.inbox.specs.Inbox.{decided, for_all, for_some}
 use Rattle.summary.specs.Summary.{marked_at}
+use Rattle.message.specs.declared.Refusal.{Refusal}
 unfoldable pub use Rattle.summary.specs.Summary.{is_summary, stands}
 unfoldable pub use Rattle.phase2a.specs.Phase2a.{owns, phase2a_message, keep_own, send_both, phase2a}
 
@@ -48,7 +47,7 @@ leader_judged p inbox network =
 -- kind 4: the message is appended to the inbox unless there
 unfoldable pub receipt_store : View → Message → Outcome Change
 receipt_store box m =
-    sending 14 (box.send m) (λ slot store. accepted (record { table = Inbox store; network = Keep; sent = Quiet }))
+    sending 14 (box.send m) (λ slot store. accepted (record { table = Inbox store; network = None; sent = Quiet }))
 
 -- row 9: a 1b and a 2b are taken, and of the 2a messages those at ballot 0, which weights send (document 02, Paper 6)
 unfoldable pub receipt : View → Message → Outcome Change
@@ -60,7 +59,7 @@ receipt box (Decision val) = refused 9
 
 -- a message sent, with nothing for the inbox
 unfoldable pub send_only : View → Message → Outcome Change
-send_only net m = sending 13 (net.send m) (λ slot store. accepted (record { table = Inbox Keep; network = store; sent = Slot slot }))
+send_only net m = sending 13 (net.send m) (λ slot store. accepted (record { table = Inbox None; network = store; sent = Slot slot }))
 
 -- kind 5
 unfoldable pub phase1a : Plan → View → ℕ → ℕ → ℕ → Outcome Change
@@ -107,7 +106,7 @@ pub record LeaderStep : Type 0 where
   pub summary : List ℕ
 
 -- the answer's enum and the tables at exit
-abbrev pub leader_step_of : Answer → List ℕ → List ℕ → List ℕ → LeaderStep
+abbrev pub leader_step_of : Result Sent Refusal → List ℕ → List ℕ → List ℕ → LeaderStep
 leader_step_of answer inbox summary network = record { step = step_of answer inbox network; summary = summary }
 
 -- a step on the inbox and N, and the summary after it

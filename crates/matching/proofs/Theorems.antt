@@ -35,7 +35,7 @@ use Rattle.paxos_commit.proofs.Words.{announced_words}
 use Rattle.rm.specs.Rm.{rm_judged, rm_step}
 use Rattle.acceptor.specs.Acceptor.{vote_at, acceptor_judged, acceptor_step}
 use Rattle.event.specs.Event.Laws.{rm_who, acceptor_who, leader_who, event_instance}
-use Rattle.message.specs.Form.{is_in_range}
+use Rattle.message.specs.Form.{is_in_range, cast_vote}
 use Rattle.matching.specs.Reading.{is_rm, is_acceptor, is_majority_set, val_of, message_of, set_of}
 use Rattle.matching.proofs.Reading.Laws.{plan_assumes, range_is_message}
 use Rattle.matching.specs.Call.{Accepted, HeldBy, Sends, Stores}
@@ -48,7 +48,6 @@ use Rattle.matching.proofs.Acceptor.Ruled.{acceptor_ruled}
 use Rattle.matching.proofs.Acceptor.Laws as Acceptor
 use mathlib.Core.List.{Memᴰ}
 use Rattle.quorum.specs.Quorum.{is_quorum}
-use Rattle.message.specs.declared.Vote.TheVariants.{Cast}
 use Rattle.message.specs.Plan.{is_plan}
 use Rattle.inbox.specs.Inbox.{any, decided}
 use Rattle.summary.specs.Summary.{is_decline, marked, decided_or_declined}
@@ -213,7 +212,7 @@ module _ (p : Plan) (inbox summary network e : List ℕ) where
   leader_instance taken = event_instance p e (Own.own_took p inbox summary network e taken).event
 
   -- the 2a that kind 6 proposes: of several highest reports in the inbox the first
-  pub leader_proposal : (xs ys : List Wire.Message) (a c v : ℕ) → messages p inbox ≡ xs ++ (Phase1b (high_of e) a (low_of e) (Cast c v) ∷ ys)
+  pub leader_proposal : (xs ys : List Wire.Message) (a c v : ℕ) → messages p inbox ≡ xs ++ (Phase1b (high_of e) a (low_of e) (cast_vote c v) ∷ ys)
       → ((d : ℕ) → Reports xs (high_of e) (low_of e) d → d < c)
       → ((d : ℕ) → Reports ys (high_of e) (low_of e) d → d ≤ c)
       → proposed p inbox e ≡ Phase2a (high_of e) (low_of e) v
@@ -306,5 +305,5 @@ pub constants_mean : (p : Plan) (k : ℕ) (MS : ℕ → Bool)
     × (is_majority_set p MS ↔ (((ac : ℕ) → MS ac ≡ true → ac < p.acceptors) × (is_quorum p.acceptors MS ≡ true)))
 constants_mean p k MS = ((λ h. h, λ h. h), (λ h. h, λ h. h), (λ h. h, λ h. h))
 
-pub reports_exactly : (ms : List Wire.Message) (i b c : ℕ) → Reports ms i b c ↔ ((a v : ℕ) × Memᴰ (Phase1b i a b (Cast c v)) ms)
+pub reports_exactly : (ms : List Wire.Message) (i b c : ℕ) → Reports ms i b c ↔ ((a v : ℕ) × Memᴰ (Phase1b i a b (cast_vote c v)) ms)
 reports_exactly ms i b c = (λ h. h, λ h. h)

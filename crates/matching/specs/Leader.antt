@@ -10,10 +10,9 @@
 --     leader_rows_by, leader_rows      all of them: without a summary, by what counts as decided; with it, and Decided read from it
 -- Assumes nothing.
 pub mod Decided
-use Rattle.std.specs.Prelude.{ℕ, ◌<◌, Bool, true, false, ◌⊎◌, ◌≡◌, eqb, length, get_or}
+use Rattle.std.specs.Prelude.{ℕ, ◌<◌, Bool, true, false, ◌⊎◌, ◌≡◌, eqb, length, get_or, Some}
 use mathlib.Core.List.{List, Memᴰ}
 use Rattle.message.specs.declared.Plan.{Plan}
-use Rattle.message.specs.declared.Vote.TheVariants.{Cast}
 use Rattle.message.specs.declared.Message as Wire
 use Rattle.message.specs.declared.Message.TheVariants.{Phase1a, Phase1b, Phase2a, Phase2b, Decision}
 use Rattle.message.specs.Plan.{is_plan}
@@ -28,6 +27,7 @@ use Rattle.leader.specs.Leader.{owns, stands}
 use Rattle.matching.specs.Reading.{is_rm, is_acceptor, is_majority_set, set_of}
 use Rattle.matching.specs.Call.{Enabled, HasRoom, SlotUnused, SlotHolds}
 use Rattle.matching.specs.Leader.Decided.{DecidedBy}
+use Rattle.message.specs.Form.{cast_vote}
 
 abbrev pub Phase1aAction : Plan → ℕ → ℕ → State → State → Type 0
 Phase1aAction p = Source.Phase1a (is_rm p) (is_acceptor p) (is_majority_set p)
@@ -74,7 +74,7 @@ proposed p inbox e = Phase2a (high_of e) (low_of e) (proposal (highest_report (h
 
 -- a 1b of (i, b) among these messages reports a vote at ballot c
 abbrev pub Reports : List Wire.Message → ℕ → ℕ → ℕ → Type 0
-Reports ms i b c = (a v : ℕ) × Memᴰ (Phase1b i a b (Cast c v)) ms
+Reports ms i b c = (a v : ℕ) × Memᴰ (Phase1b i a b (cast_vote c v)) ms
 
 -- row 10: the ballot of kinds 5 and 6 is not the leader's
 abbrev pub NotOwned : Plan → List ℕ → Type 0

@@ -4,11 +4,10 @@
 --     set_of                              a list of messages as a set
 --     rm_state_of, a_state_of             W and Q as functions
 -- Its laws are in proofs/Reading/Laws.antt. Assumes nothing.
-use Rattle.std.specs.Prelude.{ℕ, ◌+◌, ◌<◌, Bool, true, ◌&&◌, cond, ◌≡◌, ltb, eqb, get_or}
+use Rattle.std.specs.Prelude.{ℕ, ◌+◌, ◌<◌, Bool, true, ◌&&◌, cond, ◌≡◌, ltb, eqb, get_or, None, Option, Some}
 use mathlib.Core.List.{List, Memᴰ}
 use Rattle.message.specs.declared.Plan.{Plan}
 use Rattle.message.specs.declared.Vote.{Vote}
-use Rattle.message.specs.declared.Vote.TheVariants.{None, Cast}
 use Rattle.message.specs.declared.Message as Wire
 use Rattle.message.specs.declared.Message.TheVariants.{Phase1a, Phase1b, Phase2a, Phase2b, Decision}
 use Rattle.acceptor.specs.Acceptor.{vote_at}
@@ -32,13 +31,13 @@ abbrev pub val_of : ℕ → Val
 val_of v = cond (eqb v 1) prepared aborted
 
 -- a vote report as the source's two fields
-abbrev pub bal_of : Vote → Bal
+abbrev pub bal_of : Option Vote → Bal
 bal_of None = minus_one
-bal_of (Cast bal val) = ballot bal
+bal_of (Some vote) = ballot vote.bal
 
-abbrev pub vote_val_of : Vote → Val
+abbrev pub vote_val_of : Option Vote → Val
 vote_val_of None = none
-vote_val_of (Cast bal val) = val_of val
+vote_val_of (Some vote) = val_of vote.val
 
 abbrev pub message_of : Wire.Message → Message
 message_of (Phase1a ins bal) = phase1a ins bal

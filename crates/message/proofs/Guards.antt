@@ -5,18 +5,17 @@
 --     within            an index below a slice's length, where that is known
 --     told              the same for a row `refuse_if (not b)`
 --     halt, pass        a row of a chain of refusals: it applies, or what the rows below it say
---     reader_refused, _accepted     a reader's answer taken apart by `let .. else`: its refusal, or the message that goes on
+--     went_refused, went_on         an answer taken apart by `?`: its refusal, or the value that goes on
+--     missing           an `ok_or` that is refused: there was no value, and the refusal is the one that it has
 -- Assumes nothing.
 use Prim.Native.Nat.{ℕ, ◌<◌}
 use mathlib.Core.Bool.{Bool, true, false, not}
-use mathlib.Core.Path.{◌≡◌, sym, ◌∙◌, ap}
+use mathlib.Core.Path.{◌≡◌, refl, sym, ◌∙◌, ap}
 use borrow.Author.Tests.{lt-ltb, le-ltb, le-leb, lt-leb, eq-eqb, ne_eqb, not-true, not-false}
 use native.Mathlib.Omega.{arith}
-use Rattle.message.specs.declared.Message.{Message}
-use Rattle.message.specs.declared.Read.{Read}
-use Rattle.message.specs.declared.Read.TheVariants as Reads
-use Rattle.message.specs.Outcome.{Outcome, refused, number_of, and_then, refuse_if}
-use Rattle.message.specs.Codec.{read_outcome}
+use Rattle.std.specs.Prelude.{Option, None, Some, Result, Ok, Err, ok_or}
+use Rattle.message.specs.declared.Refusal.{Refusal}
+use Rattle.message.specs.Outcome.{Outcome, refused, refusal_number, outcome, and_then, refuse_if}
 
 pub ruleset guards = (tt, lt-ltb, le-ltb, le-leb, lt-leb, eq-eqb, ne_eqb, arith)
 
@@ -41,12 +40,16 @@ module _ {A : Type 0} (b : Bool) (k : ℕ) (rest : Outcome A) where
   unfolding refuse_if
   pass h e = rw h e
 
--- `answer` is a reader's, and stands for `o`; `next` is what the message goes on to
-module _ {B : Type 0} (next : Message → Outcome B) (answer : Read) (o : Outcome Message) (of-answer : read_outcome answer ≡ o) where
-  pub reader_refused : (k n : ℕ) → answer ≡ Reads.Refused k → n ≡ number_of (read_outcome answer) → refused n ≡ and_then o next
+-- `answer` stands for `o`; `next` is what its value goes on to
+module _ {A B : Type 0} (next : A → Outcome B) (answer : Result A Refusal) (o : Outcome A) (of-answer : outcome answer ≡ o) where
+  pub went_refused : (r : Refusal) → answer ≡ Err r → refused (refusal_number r) ≡ and_then o next
   unfolding and_then
-  reader_refused k n e h = rw (← of-answer, e) (ap refused (h ∙ ap (λ (a : Read). number_of (read_outcome a)) e))
+  went_refused r e = rw (← of-answer, e)
 
-  pub reader_accepted : (m : Message) → answer ≡ Reads.Message m → next m ≡ and_then o next
+  pub went_on : (a : A) → answer ≡ Ok a → next a ≡ and_then o next
   unfolding and_then
-  reader_accepted m e = rw (← of-answer, e)
+  went_on a e = rw (← of-answer, e)
+
+pub missing : {T : Type 0} (o : Option T) (r s : Refusal) → Err s ≡ ok_or o r → (o ≡ None) × (refusal_number s ≡ refusal_number r)
+missing None r s e = (refl, let same : s ≡ r = cc in ap refusal_number same)
+missing (Some x) r s e = absurd (let z : ◌≡◌ {A = ℕ} 0 1 = cc in omega arith)

@@ -18,27 +18,24 @@
 --     map_ones, map_none     the length of a known map is 2 plus the count of its ones, that of an unknown one 0
 --     order_bytes_lem, order_compared_words  the order number, high byte first; what row 18 compares
 -- Assumes nothing.
-use Rattle.std.specs.Prelude.{ℕ, zero, suc, ◌+◌, ◌*◌, ◌-◌, ◌/◌, ◌%◌, ◌^◌, ◌≤◌, ◌<◌, true, false, cond, List, [], ◌∷◌, ◌++◌, map, ◌⊎◌, ◌↔◌, ◌≡◌, refl, eqb, length, get_or, take, drop, replicate}
+use Rattle.std.specs.Prelude.{ℕ, zero, suc, ◌+◌, ◌*◌, ◌-◌, ◌/◌, ◌%◌, ◌^◌, ◌≤◌, ◌<◌, true, false, List, [], ◌∷◌, map, ◌⊎◌, ◌↔◌, ◌≡◌, refl, eqb, length, get_or, drop, replicate}
 use Rattle.std.proofs.Common.{inl, inr, sym, ◌∙◌, ap, arith, eq-eqb, eqb-true}
 use Rattle.std.specs.Int.Count.{ones}
 use Rattle.message.proofs.Outcome.Laws.{both}
 use Rattle.message.specs.declared.Plan.{Plan}
-use Rattle.message.specs.declared.Vote.{Vote}
-use Rattle.message.specs.declared.Vote.TheVariants.{None, Cast}
 use Rattle.message.specs.declared.Message.{Message}
-use Rattle.message.specs.declared.Message.TheVariants.{Phase1a, Phase1b, Phase2a, Phase2b, Decision}
 use Rattle.message.specs.declared.Written.{Written}
-use Rattle.message.specs.Outcome.{Outcome, accepted, refused}
+use Rattle.message.specs.Outcome.{accepted, refused}
 use Rattle.message.specs.Plan.{is_plan}
 use Rattle.message.specs.Form.{slot_size, bytes_of, bytes_of1b, order_bytes, is_known, map_length, decode, is_in_range, has_order}
 use Rattle.message.proofs.Form.Laws.{message_cases, decode_bytes_of, bytes_of_order, has_order_bytes, has_order_other}
 use Rattle.message.proofs.Form.Laws.{known_map, known_some, map_length_none, map_length_unknown, map_length_bytes_of}
 use Rattle.message.specs.Codec.{read_message, write_message}
-use Rattle.message.specs.Rows.{Rows, end, row, here, below, Applies, Lowest}
+use Rattle.message.specs.Rows.{here, below, Applies, Lowest}
 use Rattle.message.proofs.Rows.Laws.{is_ascending, lowest_of_ruled}
 use Rattle.message.proofs.Codec.Answers.{reader_ruled, writer_ruled, refusal_zeros, zeros_after, writes, form_accepted}
 use Rattle.message.proofs.Codec.Laws.{write_message_accepted, read_message_bytes_of, read_message_other, read_message_of_other, read_message_form}
-use Rattle.message.specs.Theorems.{bytes_rows, reader_rows, writer_rows, answer, form, fields1b, fields, bit, joined}
+use Rattle.message.specs.Theorems.{reader_rows, writer_rows, answer, form, fields, bit, joined}
 
 pub reader_answers : (p : Plan) (bytes : List ℕ) → Lowest (reader_rows p bytes) (read_message p bytes)
 unfolding is_ascending

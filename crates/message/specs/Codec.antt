@@ -1,13 +1,11 @@
 -- The reader and the writer (document 01, "Message bytes"; rows 1 and 15 to 17 of "Refusals by place"; document 02, Paper 1: row 18).
---     read_message, read_outcome   the message that a slice is, or the refusal; what the reader's enum stands for
+--     read_message                 the message that a slice is, or the refusal
 --     write_message                the writer's answer: the number, eight bytes and a length, all zero if it refuses
 -- Their laws are in proofs/Codec/Laws.antt. Assumes nothing.
 pub mod Laws
 use Rattle.std.specs.Prelude.{ℕ, not, List, eqb, length, get_or, replicate}
 use Rattle.message.specs.declared.Plan.{Plan}
 use Rattle.message.specs.declared.Message.{Message}
-use Rattle.message.specs.declared.Read.{Read}
-use Rattle.message.specs.declared.Read.TheVariants as Reads
 use Rattle.message.specs.declared.Written.{Written}
 use Rattle.message.specs.Outcome.{Outcome, accepted, refused, refuse_if}
 use Rattle.message.specs.Plan.{is_plan}
@@ -23,11 +21,6 @@ read_message p bytes =
     (refuse_if (not (is_in_range p (decode bytes))) 17
     (refuse_if (not (has_order p (map_length (get_or bytes 0 0)) bytes)) 18
     (accepted (decode bytes)))))))
-
--- what the reader's enum stands for
-abbrev pub read_outcome : Read → Outcome Message
-read_outcome (Reads.Message m) = accepted m
-read_outcome (Reads.Refused number) = refused number
 
 -- the writer's answer: number 0, the message followed by zeros and its length; or the number, eight zeros and 0
 abbrev pub written : Plan → Outcome Message → Written

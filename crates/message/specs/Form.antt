@@ -1,5 +1,6 @@
 -- Messages and their one byte form (document 01, "Message bytes"; document 02, Paper 1: the order number, slots of 8 bytes; Paper 3: lengths).
 --     is_value, is_vote, is_in_range  the ranges of a message's fields; out of range is refusal 17
+--     cast_vote                       the report of a vote
 --     map1a .. map_decision          the six bit maps
 --     order_bytes                   the order number as two bytes
 --     bytes_of, message_length       the bytes of a message: its map, its fields, the order number
@@ -8,11 +9,10 @@
 --     fields_message, decode        the message that a known map and the bytes after it make
 --     has_order                     the plan's order number stands where a message of this length has it
 -- Their laws are in proofs/Form/Laws.antt and, map by map, in proofs/Form/Maps.antt. Assumes nothing.
-use Rattle.std.specs.Prelude.{ℕ, ◌+◌, ◌-◌, ◌/◌, ◌%◌, Bool, true, ◌&&◌, ◌||◌, cond, List, [], ◌∷◌, ◌++◌, ltb, leb, eqb, length, get_or, replicate}
+use Rattle.std.specs.Prelude.{Option, None, Some, ℕ, ◌+◌, ◌-◌, ◌/◌, ◌%◌, Bool, true, ◌&&◌, ◌||◌, cond, List, [], ◌∷◌, ◌++◌, ltb, leb, eqb, length, get_or, replicate}
 use Rattle.std.specs.Int.Count.{ones}
 use Rattle.message.specs.declared.Plan.{Plan}
 use Rattle.message.specs.declared.Vote.{Vote}
-use Rattle.message.specs.declared.Vote.TheVariants.{None, Cast}
 use Rattle.message.specs.declared.Message.{Message}
 use Rattle.message.specs.declared.Message.TheVariants.{Phase1a, Phase1b, Phase2a, Phase2b, Decision}
 
@@ -21,9 +21,13 @@ unfoldable pub is_value : ℕ → Bool
 is_value v = leb 1 v && leb v 2
 
 -- a vote report: none, or any ballot with a value
-unfoldable pub is_vote : Vote → Bool
+unfoldable pub is_vote : Option Vote → Bool
 is_vote None = true
-is_vote (Cast bal val) = is_value val
+is_vote (Some vote) = is_value vote.val
+
+-- the report of a vote
+abbrev pub cast_vote : ℕ → ℕ → Option Vote
+cast_vote bal val = Some (record { bal = bal; val = val })
 
 -- every field in its range: an instance of the plan, an acceptor of the plan, a value, and in a 1a a ballot from 1
 unfoldable pub is_in_range : Plan → Message → Bool
@@ -58,9 +62,9 @@ abbrev pub order_bytes : Plan → List ℕ
 order_bytes p = (p.order / 256) ∷ (p.order % 256) ∷ []
 
 -- a 1b's bytes
-unfoldable pub bytes_of1b : Plan → ℕ → ℕ → ℕ → Vote → List ℕ
+unfoldable pub bytes_of1b : Plan → ℕ → ℕ → ℕ → Option Vote → List ℕ
 bytes_of1b p ins acc mbal None = map1b ∷ ins ∷ acc ∷ mbal ∷ order_bytes p
-bytes_of1b p ins acc mbal (Cast bal val) = map1b_vote ∷ ins ∷ acc ∷ mbal ∷ bal ∷ val ∷ order_bytes p
+bytes_of1b p ins acc mbal (Some vote) = map1b_vote ∷ ins ∷ acc ∷ mbal ∷ vote.bal ∷ vote.val ∷ order_bytes p
 
 -- the bytes of a message under a plan: the map, a byte for each of its fields, the order number
 unfoldable pub bytes_of : Plan → Message → List ℕ
@@ -95,7 +99,7 @@ unfoldable pub fields_message : ℕ → ℕ → ℕ → ℕ → ℕ → ℕ → 
 fields_message map b1 b2 b3 b4 b5 =
     cond (eqb map map1a) (Phase1a b1 b2)
     (cond (eqb map map1b) (Phase1b b1 b2 b3 None)
-    (cond (eqb map map1b_vote) (Phase1b b1 b2 b3 (Cast b4 b5))
+    (cond (eqb map map1b_vote) (Phase1b b1 b2 b3 (cast_vote b4 b5))
     (cond (eqb map map2a) (Phase2a b1 b2 b3)
     (cond (eqb map map2b) (Phase2b b1 b2 b3 b4)
     (Decision b1)))))

@@ -5,20 +5,16 @@
 --     form                the bytes that the writer gives, without the zeros after them
 --     fields, bit, joined     a message's fields in the order of the map's bits; whether one is there; one list after the other
 -- Assumes nothing.
-use Rattle.std.specs.Prelude.{ℕ, zero, suc, ◌+◌, ◌*◌, ◌-◌, ◌/◌, ◌%◌, ◌^◌, ◌≤◌, ◌<◌, true, false, cond, List, [], ◌∷◌, ◌++◌, map, ◌⊎◌, ◌↔◌, ◌≡◌, refl, eqb, length, get_or, take, drop, replicate}
-use Rattle.std.proofs.Common.{inl, inr, sym, ◌∙◌, ap, arith, eq-eqb, eqb-true}
-use Rattle.std.specs.Int.Count.{ones}
+use Rattle.std.specs.Prelude.{Option, None, Some, ℕ, false, cond, List, [], ◌∷◌, ◌++◌, ◌⊎◌, ◌≡◌, eqb, length, get_or, take}
 use Rattle.message.specs.declared.Plan.{Plan}
 use Rattle.message.specs.declared.Vote.{Vote}
-use Rattle.message.specs.declared.Vote.TheVariants.{None, Cast}
 use Rattle.message.specs.declared.Message.{Message}
 use Rattle.message.specs.declared.Message.TheVariants.{Phase1a, Phase1b, Phase2a, Phase2b, Decision}
 use Rattle.message.specs.declared.Written.{Written}
 use Rattle.message.specs.Outcome.{Outcome, accepted, refused}
 use Rattle.message.specs.Plan.{is_plan}
-use Rattle.message.specs.Form.{slot_size, bytes_of, bytes_of1b, order_bytes, is_known, map_length, decode, is_in_range, has_order}
-use Rattle.message.specs.Codec.{read_message, write_message}
-use Rattle.message.specs.Rows.{Rows, end, row, here, below, Applies, Lowest}
+use Rattle.message.specs.Form.{order_bytes, map_length, decode, is_in_range, has_order}
+use Rattle.message.specs.Rows.{Rows, end, row}
 
 -- an empty slice or an unknown map; another length than the map's; a field out of range; another order number
 abbrev pub bytes_rows : Plan → List ℕ → Rows
@@ -46,9 +42,9 @@ abbrev pub form : Written → List ℕ
 form w = take w.len w.bytes
 
 -- ins, acc, mbal, bal, val and the order number, the fields of bits 0 to 5: none where the message has no such field
-abbrev pub fields1b : Plan → ℕ → ℕ → ℕ → Vote → List (List ℕ)
+abbrev pub fields1b : Plan → ℕ → ℕ → ℕ → Option Vote → List (List ℕ)
 fields1b p ins acc mbal None = (ins ∷ []) ∷ (acc ∷ []) ∷ (mbal ∷ []) ∷ [] ∷ [] ∷ order_bytes p ∷ []
-fields1b p ins acc mbal (Cast bal val) = (ins ∷ []) ∷ (acc ∷ []) ∷ (mbal ∷ []) ∷ (bal ∷ []) ∷ (val ∷ []) ∷ order_bytes p ∷ []
+fields1b p ins acc mbal (Some vote) = (ins ∷ []) ∷ (acc ∷ []) ∷ (mbal ∷ []) ∷ (vote.bal ∷ []) ∷ (vote.val ∷ []) ∷ order_bytes p ∷ []
 
 abbrev pub fields : Plan → Message → List (List ℕ)
 fields p (Phase1a ins bal) = (ins ∷ []) ∷ [] ∷ [] ∷ (bal ∷ []) ∷ [] ∷ order_bytes p ∷ []

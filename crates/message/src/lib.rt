@@ -2,24 +2,26 @@
 // The plan of an order, the messages, and their one byte form (document 01, "The plan and four tables" and "Message bytes").
 //
 //     Plan, is_plan                  the three counts, and refusal 1; the order number
-//     Message, Vote                  the messages of the protocol; the vote report of a 1b
+//     Message, Vote                  the messages of the protocol; the vote that a 1b reports
 //     MAP_1A ..                      the six bit maps
 //     INS ..                         where a message's fields stand
 //     SLOT_SIZE                      the bytes of a slot
 //     is_known, map_length           whether a byte is one of the six maps; the length that it stands for
 //     is_value, in_range             the ranges of the fields, and refusal 17
-//     Read, Written                  the answers of the reader and of the writer, which are the crate `codec`
+//     Refusal, number_of             the refusals and their numbers; the number of an answer
+//     Written                        the answer of the writer, which is the crate `codec`
 //     byte_at                        a byte, or 0 past the end
 //     order_of                       the order number of two bytes
 //     encode                         the byte form by itself
 //
 // What each of them means stands in specs/, where the reader and the writer are defined too.
-ghost use Rattle.std.specs.Prelude.{◌≡◌, ◌+◌, ◌*◌, ◌/◌, ◌%◌, get_or};
+ghost use Rattle.std.specs.Prelude.{◌≡◌, ◌+◌, ◌*◌, get_or};
+ghost use Rattle.message.specs.Outcome.{number_of, refusal_number, outcome};
 ghost use Rattle.message.specs.Plan.{is_plan};
 ghost use Rattle.message.specs.Form.{is_value, is_vote, is_in_range, slot_of, is_known, map_length};
 
 // The plan of an order: how many resource managers (document 01: weights), acceptors and leaders it has, and its number (document 02, Paper 1).
-#[derive(Clone, Copy)]
+#[derive(Clone, Copy, Debug, PartialEq, Eq)]
 pub struct Plan {
     pub rms: u8,
     pub acceptors: u8,
@@ -27,7 +29,8 @@ pub struct Plan {
     pub order: u16,
 }
 
-// Whether the plan is in range: 1 to 16 resource managers, 1 to 7 acceptors, 1 to 4 leaders. Where it is not, every call refuses 1.
+// Whether the plan is in range: 1 to 16 resource managers, 1 to 7 acceptors, 1 to 4 leaders. Where it is not, every call refuses 1. A plan in
+// range has no type of its own: its fact would be a ghost field or a model, which tests/contracts.sh refuses, so inner functions require it.
 pub fn is_plan(plan: Plan) -> bool
     ensures { result ≡ is_plan plan }
 {
@@ -37,15 +40,16 @@ pub fn is_plan(plan: Plan) -> bool
     rms & acceptors & leaders
 }
 
-// What a 1b says of the acceptor's last vote: none, or its ballot and value (document 01: the vote report).
-#[derive(Clone, Copy)]
-pub enum Vote {
-    None,
-    Cast { bal: u8, val: u8 },
+// A vote: a ballot and a value. A 1b reports the acceptor's last one, or none (document 01: the vote report).
+#[derive(Clone, Copy, Debug, PartialEq, Eq)]
+pub struct Vote {
+    pub bal: u8,
+    pub val: u8,
 }
 
-// A message, with raw bytes in its fields: instance, acceptor, ballots, value.
-#[derive(Clone, Copy)]
+// A message, with raw bytes in its fields: instance, acceptor, ballots, value. A value is a byte, since the writer refuses 17 for one that is
+// none, and a table that nobody judged has any (`slots::message_at`).
+#[derive(Clone, Copy, Debug, PartialEq, Eq)]
 pub enum Message {
     Phase1a {
         ins: u8,
@@ -55,7 +59,7 @@ pub enum Message {
         ins: u8,
         acc: u8,
         mbal: u8,
-        vote: Vote,
+        vote: Option<Vote>,
     },
     Phase2a {
         ins: u8,
@@ -73,7 +77,8 @@ pub enum Message {
     },
 }
 
-// The bit maps: bits 0 to 4 stand for ins, acc, mbal, bal and val; bit 5 always stands, for the order number.
+// The bit maps, as bytes, since they are compared with bytes of slots: bits 0 to 4 stand for ins, acc, mbal, bal and val; bit 5 always
+// stands, for the order number.
 pub const MAP_1A: u8 = 0x29;
 
 pub const MAP_1B: u8 = 0x27;
@@ -142,12 +147,12 @@ pub fn is_value(val: u8) -> bool
     (1 <= val) & (val <= 2)
 }
 
-fn is_vote(vote: Vote) -> bool
+fn is_vote(vote: Option<Vote>) -> bool
     ensures { result ≡ is_vote vote }
 {
     match vote {
-        Vote::None => true,
-        Vote::Cast { bal: _, val } => is_value(val),
+        None => true,
+        Some(vote) => is_value(vote.val),
     }
 }
 
@@ -174,48 +179,84 @@ pub fn in_range(plan: Plan, m: Message) -> bool
     }
 }
 
-// A message, or a refusal's number: the reader's answer, a slot's, and what a leader would propose.
-#[derive(Clone, Copy)]
-pub enum Read {
-    Message(Message),
-    Refused(u8),
+// Why a call refuses (document 01, "Refusals by place"; 18 to 20 are document 02's, Papers 1, 2 and 5). Its number is what hosts are told.
+#[derive(Clone, Copy, Debug, PartialEq, Eq)]
+pub enum Refusal {
+    // A count of the plan out of range.
+    Plan = 1,
+    // A table of another length than the plan's.
+    Length = 2,
+    // A byte of W that is no state; in Q a vote that is none.
+    State = 3,
+    Vote = 4,
+    // N, and an inbox, that is no table of slots.
+    Network = 5,
+    Inbox = 6,
+    // No event of this role.
+    Event = 7,
+    // A slot that is unused or beyond N, and one with a message that is not for this role.
+    Slot = 8,
+    Role = 9,
+    // A ballot that the leader doesn't own.
+    Ballot = 10,
+    // A decision that contradicts the state.
+    Contradiction = 11,
+    // A guard that does not hold.
+    NotEnabled = 12,
+    // No room in N, and in the inbox.
+    NetworkFull = 13,
+    InboxFull = 14,
+    // Bytes that are no message: an unknown map, another length than the map's, a field out of range, another order's number.
+    Map = 15,
+    MessageLength = 16,
+    Field = 17,
+    Order = 18,
+    // A list that is no whole events, or has not an answer for each.
+    Events = 19,
+    // Bytes that are no summary.
+    Summary = 20,
+}
+
+impl Refusal {
+    // The number of "Refusals by place".
+    pub fn number(self) -> u8
+        ensures { result ≡ refusal_number self }
+    {
+        self as u8
+    }
+}
+
+// The number of an answer: 0 where it is accepted, else the refusal's.
+pub fn number_of<T: Copy>(answer: Result<T, Refusal>) -> u8
+    ensures { result ≡ number_of (outcome answer) }
+{
+    match answer {
+        Ok(_) => 0,
+        Err(refusal) => refusal.number(),
+    }
 }
 
 // The byte at an index, or 0 past the end.
 pub fn byte_at(bytes: &[u8], at: usize) -> u8
     ensures { result ≡ get_or bytes.now at 0 }
 {
-    if at < bytes.len() { bytes[at] } else { 0 }
+    bytes.get(at).copied().unwrap_or(0)
 }
 
 // The order number of two bytes, the higher first.
 pub fn order_of(high: u8, low: u8) -> u16
     ensures { result ≡ 256 * high + low }
 {
-    256 * (high as u16) + (low as u16)
+    u16::from_be_bytes([high, low])
 }
 
-// The two bytes of a plan's order number.
-fn order_high(plan: Plan) -> u8
-    ensures { result ≡ plan.order / 256 }
-{
-    (plan.order / 256) as u8
-}
-
-fn order_low(plan: Plan) -> u8
-    ensures { result ≡ plan.order % 256 }
-{
-    (plan.order % 256) as u8
-}
-
-fn encode_1b(plan: Plan, ins: u8, acc: u8, mbal: u8, vote: Vote) -> [u8; SLOT_SIZE]
+fn encode_1b(plan: Plan, ins: u8, acc: u8, mbal: u8, vote: Option<Vote>) -> [u8; SLOT_SIZE]
     ensures { result ≡ slot_of plan (Message.Phase1b ins acc mbal vote) }
 {
-    let high = order_high(plan);
-    let low = order_low(plan);
+    let [high, low] = plan.order.to_be_bytes();
     match vote {
-        Vote::None => [MAP_1B, ins, acc, mbal, high, low, 0, 0],
-        Vote::Cast { bal, val } => [MAP_1B_VOTE, ins, acc, mbal, bal, val, high, low],
+        None => [MAP_1B, ins, acc, mbal, high, low, 0, 0],
+        Some(vote) => [MAP_1B_VOTE, ins, acc, mbal, vote.bal, vote.val, high, low],
     }
 }
 
@@ -223,8 +264,7 @@ fn encode_1b(plan: Plan, ins: u8, acc: u8, mbal: u8, vote: Vote) -> [u8; SLOT_SI
 pub fn encode(plan: Plan, m: Message) -> [u8; SLOT_SIZE]
     ensures { result ≡ slot_of plan m }
 {
-    let high = order_high(plan);
-    let low = order_low(plan);
+    let [high, low] = plan.order.to_be_bytes();
     match m {
         Message::Phase1a { ins, bal } => [MAP_1A, ins, bal, high, low, 0, 0, 0],
         Message::Phase1b {
@@ -239,7 +279,8 @@ pub fn encode(plan: Plan, m: Message) -> [u8; SLOT_SIZE]
     }
 }
 
-// The writer's answer: number 0, a message followed by zeros and its length; or the refusal's number, zeros and 0.
+// The writer's answer: number 0, a message followed by zeros and its length; or the refusal's number, zeros and 0. It is no Result, since
+// document 01's writer gives bytes and a length, all zero, where it refuses too (`written` in specs/Codec.antt).
 #[derive(Clone, Copy)]
 pub struct Written {
     pub number: u8,

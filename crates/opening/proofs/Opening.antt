@@ -5,37 +5,25 @@
 -- Assumes nothing.
 use Prim.Native.Nat.{ℕ, ◌*◌}
 use mathlib.Core.List.{List}
-use mathlib.Core.Path.{◌≡◌, sym, ◌∙◌, ap}
+use mathlib.Core.Path.{◌≡◌}
 use lib.ListN.{length}
 use borrow.Author.Tests.{eq-eqb, ne_eqb}
 use Rattle.message.specs.declared.Plan.{Plan}
 use Rattle.message.specs.Outcome.{accepted, refused, and_then, refuse_if}
-use Rattle.change.specs.declared.Judged.{Judged}
-use Rattle.change.specs.declared.Judged.TheVariants as Judgements
-use Rattle.change.specs.Change.{judged_outcome}
-use Rattle.opening.specs.Opening.{Tables, tables_of, four, zeroed, lengths_judged, open_judged, opening_of, record_open}
-use Rattle.opening.specs.Opening.Four.{lengths_four}
+use Rattle.opening.specs.Opening.{Tables, tables_of, zeroed, lengths_judged, open_judged, record_open}
 
-module _ (p : Plan) (t : Tables) (judged : Judged) (of_four : judged_outcome judged ≡ lengths_judged p (four t)) where
-  of_judged : judged_outcome judged ≡ lengths_judged p t
-  of_judged = of_four ∙ lengths_four p t
-
-  pub open_refused : (k : ℕ) → judged ≡ Judgements.Refused k → opening_of judged t ≡ record_open p t
+module _ (p : Plan) (t : Tables) where
+  pub open_refused : (k : ℕ) → refused k ≡ lengths_judged p t → record { answer = refused k; tables = t } ≡ record_open p t
   unfolding record_open open_judged and_then
-  open_refused k e =
-      let bad : lengths_judged p t ≡ refused k = sym of_judged ∙ ap judged_outcome e in
-      rw bad (ap (λ (j : Judged). opening_of j t) e)
+  open_refused k bad = rw (← bad)
 
-  module _ (e : judged ≡ Judgements.Sound) where
-    sound : lengths_judged p t ≡ accepted tt
-    sound = sym of_judged ∙ ap judged_outcome e
-
+  module _ (sound : accepted tt ≡ lengths_judged p t) where
     pub open_short : (length t.summary ≡ p.rms * p.leaders → ⊥) → record { answer = refused 20; tables = t } ≡ record_open p t
     unfolding record_open open_judged and_then refuse_if
-    open_short h = rw (sound, ne_eqb _ _ h)
+    open_short h = rw (← sound, ne_eqb _ _ h)
 
     pub open_cleared : length t.summary ≡ p.rms * p.leaders → (w q n i s : List ℕ)
         → w ≡ zeroed t.states → q ≡ zeroed t.votes → n ≡ zeroed t.network → i ≡ zeroed t.inboxes → s ≡ zeroed t.summary
         → record { answer = accepted tt; tables = tables_of w q n i s } ≡ record_open p t
     unfolding record_open open_judged and_then refuse_if
-    open_cleared h w q n i s states votes network inboxes summary = rw (states, votes, network, inboxes, summary, sound, eq-eqb _ _ h)
+    open_cleared h w q n i s states votes network inboxes summary = rw (states, votes, network, inboxes, summary, ← sound, eq-eqb _ _ h)

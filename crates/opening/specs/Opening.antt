@@ -2,6 +2,7 @@
 -- place"; document 02, Paper 5, for the summary and row 20).
 --     Tables, tables_of                   W, Q, N, I and the summary
 --     four_of, four                      the four of document 01 alone
+--     lent                               what is lent to be read, as these tables
 --     with_states, with_votes, with_network, with_inboxes, with_summary  one of them replaced, as a whole
 --     inbox_size, are_lengths            the bytes of each of the L equal parts of I; row 2
 --     lengths_judged, open_judged        rows 1 and 2; and 20, which here asks for the summary's length alone
@@ -9,13 +10,13 @@
 -- Where the parts of I lie is in Opening/Parts.antt, that rows 1 and 2 read no summary in Opening/Four.antt. Assumes nothing.
 pub mod Parts
 pub mod Four
-use Rattle.std.specs.Prelude.{ℕ, ◌*◌, ◌/◌, ◌%◌, Bool, not, ◌&&◌, List, [], eqb, length, replicate}
+use Rattle.std.specs.Prelude.{ℕ, ◌*◌, ◌/◌, ◌%◌, Bool, not, ◌&&◌, List, [], eqb, length, replicate, Result}
+use Rattle.opening.specs.declared.Lent.{Lent}
 use Rattle.message.specs.declared.Plan.{Plan}
-use Rattle.message.specs.Outcome.{Outcome, accepted, refused, and_then, refuse_if}
+use Rattle.message.specs.Outcome.{Outcome, accepted, refused, and_then, refuse_if, outcome}
 use Rattle.message.specs.Plan.{is_plan}
 use Rattle.slots.specs.Table.{is_table_length}
-use Rattle.change.specs.declared.Judged.{Judged}
-use Rattle.change.specs.Change.{judged_outcome}
+use Rattle.message.specs.declared.Refusal.{Refusal}
 
 -- W, Q, N, I and the summary
 pub record Tables : Type 0 where
@@ -35,6 +36,10 @@ four_of states votes network inboxes = tables_of states votes network inboxes []
 
 abbrev pub four : Tables → Tables
 four t = four_of t.states t.votes t.network t.inboxes
+
+-- the tables as they are lent
+abbrev pub lent : Lent → Tables
+lent l = tables_of l.states.now l.votes.now l.network.now l.inboxes.now l.summary.now
 
 -- the tables with one of them replaced
 abbrev pub with_states : Tables → List ℕ → Tables
@@ -88,8 +93,8 @@ pub record Opening : Type 0 where
   pub tables : Tables
 
 -- the answer's enum and the tables at exit
-abbrev pub opening_of : Judged → Tables → Opening
-opening_of judged t = record { answer = judged_outcome judged; tables = t }
+abbrev pub opening_of : Result (Unit {0}) Refusal → Tables → Opening
+opening_of judged t = record { answer = outcome judged; tables = t }
 
 -- every byte zero; a refusal leaves the tables as they were
 abbrev pub opened : Tables → Outcome (Unit {0}) → Opening

@@ -5,12 +5,12 @@
 -- The laws of ownership are in Phase2a/Laws.antt, and the own 2a's place in Phase2a/Own.antt. Assumes nothing.
 pub mod Laws
 pub mod Own
-use Rattle.std.specs.Prelude.{ℕ, ◌-◌, ◌%◌, Bool, not, ◌&&◌, List, leb, eqb}
+use Rattle.std.specs.Prelude.{ℕ, ◌-◌, ◌%◌, Bool, not, ◌&&◌, List, leb, eqb, Option}
 use Rattle.message.specs.declared.Plan.{Plan}
 use Rattle.message.specs.declared.Message.{Message}
 use Rattle.message.specs.declared.Message.TheVariants.{Phase2a}
 use Rattle.message.specs.Outcome.{Outcome, accepted, and_then, refuse_if}
-use Rattle.slots.specs.declared.Store.{Store}
+use Rattle.slots.specs.declared.Put.{Put}
 use Rattle.slots.specs.View.{View, sending}
 use Rattle.change.specs.declared.Change.{Change}
 use Rattle.change.specs.declared.Sent.TheVariants.{Slot}
@@ -35,7 +35,7 @@ phase2a_message p inbox who i b =
     (accepted (Phase2a i b (proposal (highest_report i b inbox))))))
 
 -- the own 2a is appended to the inbox unless there
-unfoldable pub keep_own : View → Message → ℕ → Store → Outcome Change
+unfoldable pub keep_own : View → Message → ℕ → Option Put → Outcome Change
 keep_own box m slot store =
     sending 14 (box.send m) (λ place kept. accepted (record { table = Inbox kept; network = store; sent = Slot slot }))
 

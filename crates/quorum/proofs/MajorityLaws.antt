@@ -4,7 +4,7 @@
 --     majority_at, majority_out    what the table tells of a set, and that it has none of no or of more than seven acceptors
 --     majority_within              up to seven acceptors nothing else is asked
 -- Assumes nothing.
-use Rattle.std.specs.Prelude.{ℕ, zero, suc, ◌+◌, ◌-◌, ◌*◌, ◌%◌, ◌^◌, ◌≤◌, ◌<◌, Bool, true, false, ◌&&◌, cond, List, [], ◌∷◌, ◌++◌, ◌≡◌, refl, eqb, leb, get_or, length}
+use Rattle.std.specs.Prelude.{ℕ, zero, suc, ◌+◌, ◌-◌, ◌*◌, ◌%◌, ◌^◌, ◌≤◌, ◌<◌, Bool, true, false, ◌&&◌, cond, List, ◌≡◌, refl, eqb, leb, get_or, length}
 use Rattle.std.proofs.Common.{suc-le-suc, zero-le, ap, ◌∙◌, sym, not-suc-le-zero, le_of_suc-le-suc, mod-lt, mod-eq_of_lt, pow-suc, arith, pow_pos, pow_mono, get_or-append-add, le-leb}
 use Rattle.std.specs.Int.Count as Count
 use Rattle.std.proofs.Math.ListN.{get_or-append}

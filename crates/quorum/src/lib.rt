@@ -32,10 +32,10 @@ pub fn count_bits(total: u8, mask: u8) -> u32
     ensures { result ≡ ones total mask }
 {
     if 8 <= total {
-        return u32::count_ones(mask as u32);
+        return mask.count_ones();
     }
-    let low = (1u32 << total) - 1;
-    u32::count_ones((mask as u32) & low)
+    let low = (1u8 << total) - 1;
+    (mask & low).count_ones()
 }
 
 // Whether the members among the first `total` acceptors are a majority of them.

@@ -2,7 +2,7 @@
 --     lent_refused, lent_unsound, lent_whole      1 to 6; 20; all that is lent is sound
 --     kept_none, kept_part, marked_part           storing in an inbox, and marking a leader's bytes
 --     update_states, update_votes, update_inbox   an update of each table
---     apply_refused, apply_accepted               the two ways out of `apply`
+--     apply_accepted                              what `apply` does with an accepted verdict
 --     performed_refused, _other, _receipt         what was evaluated is applied and, of a receipt, marked; receiver, that its leader is one
 --     step_applied                                on a judged record that is the event call
 --     step_refused, step_performed                the whole call: the judgement refuses; it does not
@@ -16,27 +16,21 @@ use native.Mathlib.Omega.{arith}
 use lib.ListN.{length, set}
 use borrow.Author.Tests.{le-leb, lt-leb, eq-eqb, ne_eqb, lt-ltb, le-ltb, not-false}
 use Rattle.message.specs.declared.Plan.{Plan}
-use Rattle.message.specs.Outcome.{Outcome, accepted, refused, and_then, refuse_if, number_of}
+use Rattle.message.specs.Outcome.{Outcome, accepted, refused, and_then, refuse_if}
 use Rattle.message.proofs.Outcome.Laws.{accepted_not_refused, refuse_if_accepted}
 use Rattle.message.specs.Plan.{is_plan}
 use Rattle.message.proofs.PlanLaws.{plan_bounds}
 use Rattle.slots.specs.Table.{messages}
-use Rattle.slots.specs.declared.Store.{Store}
+use Rattle.slots.specs.declared.Put.{Put}
 use Rattle.slots.specs.View.{View, view_table, store_bytes}
 use Rattle.slots.specs.View.Bytes.{view_bytes}
 use Rattle.slots.proofs.View.Laws.{view_judged}
 use Rattle.event.specs.Event.{kind_of, who_of, slot_number, is_event}
 use Rattle.change.specs.declared.Sent.{Sent}
-use Rattle.change.specs.declared.Answer.{Answer}
-use Rattle.change.specs.declared.Answer.TheVariants as Answers
 use Rattle.change.specs.declared.Change.{Change}
 use Rattle.change.specs.declared.Update as UpdateType
 use Rattle.change.specs.declared.Update.TheVariants.{State, Vote, Inbox}
-use Rattle.change.specs.declared.Verdict.{Verdict}
-use Rattle.change.specs.declared.Verdict.TheVariants as Verdicts
-use Rattle.change.specs.declared.Judged.{Judged}
-use Rattle.change.specs.declared.Judged.TheVariants as Judgements
-use Rattle.change.specs.Change.{Step, answer_outcome, judged_outcome, verdict_outcome, updated, applied}
+use Rattle.change.specs.Change.{Step, updated, applied}
 use Rattle.change.specs.Change.Updates.{IsState, IsVote, IsInbox, Changes}
 use Rattle.rm.specs.Rm.{rm_verdict}
 use Rattle.rm.specs.Rm.Updates.{rm_changes}
@@ -52,8 +46,6 @@ use Rattle.leader.specs.Leader.Sound as LeaderSound
 use Rattle.leader.specs.Leader.Updates.{leader_changes}
 use Rattle.leader.proofs.Judging as Leader
 use Rattle.leader.proofs.Judging.{decided_same}
-use Rattle.opening.specs.Opening.{four}
-use Rattle.judging.specs.Judging.Four.{judged_four}
 use Rattle.verdict.specs.Verdict.{leader_on, record_verdict}
 use Rattle.verdict.proofs.Inboxes.{part_of, part_is}
 use Rattle.verdict.proofs.Evaluating.{led, no_event}
@@ -64,27 +56,25 @@ use Rattle.record.specs.Record.Laws.{sound, judged_rm, judged_acceptor, judged_l
 use Rattle.record.specs.Record.Parts.{length_inbox_of, inbox_of_with, with_inbox_of}
 use Rattle.record.specs.Record.Summary.{marking_refused, marking_other, lent_sound}
 use Rattle.record.proofs.Inboxes.{put_part, part_put}
+use Rattle.std.specs.Prelude.{Option, Ok}
 
 -- the judgement of all that is lent, after that of the plan and the four tables
-module _ (p : Plan) (t : Tables) (judged : Judged) (of_judged : judged_outcome judged ≡ record_judged p (four t)) where
-  four_is : (j : Judged) → judged ≡ j → record_judged p t ≡ judged_outcome j
-  four_is j told = sym (judged_four p t) ∙ sym of_judged ∙ ap judged_outcome told
-
-  pub lent_refused : (k : ℕ) → judged ≡ Judgements.Refused k → judged_outcome judged ≡ lent_judged p t
+module _ (p : Plan) (t : Tables) where
+  pub lent_refused : (k : ℕ) → refused k ≡ record_judged p t → refused k ≡ lent_judged p t
   unfolding lent_judged and_then
-  lent_refused k told = rw (told, four_is (Judgements.Refused k) told)
+  lent_refused k bad = rw (← bad)
 
-  module _ (told : judged ≡ Judgements.Sound) (count : ℕ) (of-count : count ≡ p.rms * p.leaders) where
+  module _ (judged : accepted tt ≡ record_judged p t) (count : ℕ) (of-count : count ≡ p.rms * p.leaders) where
     pub lent_unsound : is_summary count t.summary ≡ false → refused 20 ≡ lent_judged p t
     unfolding lent_judged and_then refuse_if
-    lent_unsound none = rw (four_is Judgements.Sound told, ← of-count, none)
+    lent_unsound none = rw (← judged, ← of-count, none)
 
     pub lent_whole : is_summary count t.summary ≡ true → accepted tt ≡ lent_judged p t
     unfolding lent_judged and_then refuse_if
-    lent_whole whole = rw (four_is Judgements.Sound told, ← of-count, whole)
+    lent_whole whole = rw (← judged, ← of-count, whole)
 
 -- storing in an inbox
-module _ (p : Plan) (i : List ℕ) (l : ℕ) (store : Store) where
+module _ (p : Plan) (i : List ℕ) (l : ℕ) (store : Option Put) where
   pub kept_none : p.leaders ≤ l → i ≡ kept_inbox p i l store
   unfolding kept_inbox
   kept_none h = rw (le-ltb l p.leaders h)
@@ -115,58 +105,47 @@ module _ (p : Plan) (l : ℕ) (w q i : List ℕ) (u : UpdateType.Update) where
       → (n s : List ℕ) → tables_of w q' n i s ≡ changed p l (tables_of w q n i s) u n
   update_votes at mbal bal val is q' done n s = rw (is, done)
 
-  pub update_inbox : (store : Store) → u ≡ Inbox store → (i' : List ℕ) → i' ≡ kept_inbox p i l store
+  pub update_inbox : (store : Option Put) → u ≡ Inbox store → (i' : List ℕ) → i' ≡ kept_inbox p i l store
       → (n s : List ℕ) → tables_of w q n i' s ≡ changed p l (tables_of w q n i s) u n
   update_inbox store is i' done n s = rw (is, done)
 
--- from a verdict, and what was stored for it, to the answer and the four tables
-module _ (p : Plan) (l : ℕ) (t : Tables) (verdict : Verdict) where
-  pub apply_refused : (k n : ℕ) → verdict ≡ Verdicts.Refused k → n ≡ number_of (verdict_outcome verdict) → record_refusal t n ≡ applied_to p l t (verdict_outcome verdict)
-  apply_refused k n v e =
-      let same : n ≡ k = e ∙ ap (λ (w : Verdict). number_of (verdict_outcome w)) v in
-      rw v (ap (record_refusal t) same)
-
-  pub apply_accepted : (change : Change) → verdict ≡ Verdicts.Accepted change → (w q n i : List ℕ)
-      → ((m s : List ℕ) → tables_of w q m i s ≡ changed p l (tables_of t.states t.votes m t.inboxes s) change.table m)
-      → n ≡ store_bytes p change.network t.network
-      → record { answer = accepted change.sent; tables = tables_of w q n i t.summary } ≡ applied_to p l t (verdict_outcome verdict)
-  apply_accepted change v w q n i stored sent =
-      rw v (ap (λ (x : Tables). record { answer = accepted change.sent; tables = x })
-      (stored n t.summary ∙ changed_network change.table n ∙ ap (changed p l t change.table) sent))
-    where
-      changed_network : (u : UpdateType.Update) (n : List ℕ)
-          → changed p l (with_network t n) u n ≡ changed p l t u n
-      changed_network (State who state) n = refl
-      changed_network (Vote at mbal bal val) n = refl
-      changed_network (Inbox store) n = refl
+-- from an accepted verdict, and what was stored for it, to the answer and the four tables
+pub apply_accepted : (p : Plan) (l : ℕ) (t : Tables) (change : Change) (w q n i : List ℕ)
+    → ((m s : List ℕ) → tables_of w q m i s ≡ changed p l (tables_of t.states t.votes m t.inboxes s) change.table m)
+    → n ≡ store_bytes p change.network t.network
+    → record { answer = accepted change.sent; tables = tables_of w q n i t.summary } ≡ applied_to p l t (accepted change)
+apply_accepted p l t change w q n i stored sent =
+    ap (λ (x : Tables). record { answer = accepted change.sent; tables = x })
+    (stored n t.summary ∙ changed_network change.table n ∙ ap (changed p l t change.table) sent)
+  where
+    changed_network : (u : UpdateType.Update) (n : List ℕ)
+        → changed p l (with_network t n) u n ≡ changed p l t u n
+    changed_network (State who state) n = refl
+    changed_network (Vote at mbal bal val) n = refl
+    changed_network (Inbox store) n = refl
 
 -- what was evaluated is applied, and then marked: o is the verdict, u the tables before the mark
-module _ (p : Plan) (t : Tables) (e : List ℕ) (o : Outcome Change) (evaluated : o ≡ record_verdict p t e) (l : ℕ) (own : l ≡ who_of e)
-    (answer : Answer) (u : Tables) (stored : record_step_of answer u ≡ applied_to p l t o) where
-  applied_is : record_step_of answer u ≡ applied_to p (who_of e) t (record_verdict p t e)
-  applied_is = stored ∙ ap (λ (k : ℕ). applied_to p k t o) own ∙ ap (applied_to p (who_of e) t) evaluated
+module _ (p : Plan) (t : Tables) (e : List ℕ) (o : Outcome Change) (evaluated : o ≡ record_verdict p t e) (l : ℕ) (own : l ≡ who_of e) (u : Tables) where
+  applied_is : (r : RecordStep) → r ≡ applied_to p l t o → r ≡ applied_to p (who_of e) t (record_verdict p t e)
+  applied_is r stored = stored ∙ ap (λ (k : ℕ). applied_to p k t o) own ∙ ap (applied_to p (who_of e) t) evaluated
 
-  marked_is : marking p (decided_bytes p) (view_bytes p) e (record_step_of answer u) ≡ record_applied p t e
+  marked_is : (r : RecordStep) → r ≡ applied_to p l t o → marking p (decided_bytes p) (view_bytes p) e r ≡ record_applied p t e
   unfolding record_applied
-  marked_is = ap (marking p (decided_bytes p) (view_bytes p) e) applied_is
+  marked_is r stored = ap (marking p (decided_bytes p) (view_bytes p) e) (applied_is r stored)
 
-  pub performed_refused : (k : ℕ) → answer ≡ Answers.Refused k → record_step_of answer u ≡ record_applied p t e
-  performed_refused k told = sym (marking_refused p (decided_bytes p) (view_bytes p) e (record_step_of answer u) k (ap answer_outcome told)) ∙ marked_is
+  pub performed_refused : (k : ℕ) → record_refusal u k ≡ applied_to p l t o → record_refusal u k ≡ record_applied p t e
+  performed_refused k stored = sym (marking_refused p (decided_bytes p) (view_bytes p) e (record_refusal u k) k refl) ∙ marked_is _ stored
 
-  module _ (sent : Sent) (told : answer ≡ Answers.Accepted sent) (kind : ℕ) (of-kind : kind ≡ kind_of e) where
-    pub performed_other : (kind ≡ 4 → ⊥) → record_step_of (Answers.Accepted sent) u ≡ record_applied p t e
+  module _ (sent : Sent) (stored : record_step_of (Ok sent) u ≡ applied_to p l t o) (kind : ℕ) (of-kind : kind ≡ kind_of e) where
+    pub performed_other : (kind ≡ 4 → ⊥) → record_step_of (Ok sent) u ≡ record_applied p t e
     performed_other h =
-        ap (λ (a : Answer). record_step_of a u) (sym told)
-        ∙ sym (marking_other p (decided_bytes p) (view_bytes p) e (record_step_of answer u) (λ k. h (of-kind ∙ k)))
-        ∙ marked_is
+        sym (marking_other p (decided_bytes p) (view_bytes p) e (record_step_of (Ok sent) u) (λ k. h (of-kind ∙ k))) ∙ marked_is _ stored
 
     module _ (h : kind ≡ 4) where
       pub receiver : l < p.leaders
       unfolding record_verdict
       receiver =
-          let taken : (applied_to p (who_of e) t (record_verdict p t e)).answer ≡ accepted sent
-          = ap (λ (x : RecordStep). x.answer) (sym applied_is) ∙ ap answer_outcome told in
-          let event : is_event p e ≡ true = go (record_verdict p t e) refl taken in
+          let event : is_event p e ≡ true = go (record_verdict p t e) refl (ap (λ (x : RecordStep). x.answer) (sym (applied_is _ stored))) in
           rw own (led p e event (rw (← of-kind, h) (omega arith)) (λ k. omega (arith, of-kind, h, k)))
         where
           go : (v : Outcome Change) → record_verdict p t e ≡ v → (applied_to p (who_of e) t v).answer ≡ accepted sent → is_event p e ≡ true
@@ -175,11 +154,10 @@ module _ (p : Plan) (t : Tables) (e : List ℕ) (o : Outcome Change) (evaluated 
 
       pub performed_receipt : (k : ℕ) → k ≡ slot_number e → (s : List ℕ)
           → s ≡ with_inbox p u.summary l (marked_at (decided_bytes p (inbox_of p u.inboxes l)) (inbox_of p u.summary l) ((view_bytes p u.network).slot k))
-          → record_step_of (Answers.Accepted sent) (with_summary u s) ≡ record_applied p t e
+          → record_step_of (Ok sent) (with_summary u s) ≡ record_applied p t e
       performed_receipt k of-k s done =
-          ap (λ (x : List ℕ). record_step_of (Answers.Accepted sent) (with_summary u x)) (done ∙ rw (own, of-k, eq-eqb (kind_of e) 4 (sym of-kind ∙ h)))
-          ∙ ap (λ (a : Answer). marking p (decided_bytes p) (view_bytes p) e (record_step_of a u)) (sym told)
-          ∙ marked_is
+          ap (λ (x : List ℕ). record_step_of (Ok sent) (with_summary u x)) (done ∙ rw (own, of-k, eq-eqb (kind_of e) 4 (sym of-kind ∙ h)))
+          ∙ marked_is _ stored
 
 -- the code's mark, and the call's
 marking_same : (p : Plan) (e : List ℕ) (r : RecordStep) → is_plan p ≡ true
@@ -311,11 +289,9 @@ module _ (p : Plan) (t : Tables) (e : List ℕ) where
           rw ok (ap (marking p (decided_bytes p) (view_bytes p) e) none ∙ marking_refused p (decided_bytes p) (view_bytes p) e (record_refusal t 7) 7 refl)
 
   -- the whole call, after its judgement
-  module _ (judged : Judged) (of_judged : judged_outcome judged ≡ lent_judged p t) where
-    pub step_refused : (k : ℕ) → judged ≡ Judgements.Refused k → record_refusal t k ≡ record_step p t e
-    unfolding record_step and_then
-    step_refused k told = rw (← of_judged, told)
+  pub step_refused : (k : ℕ) → refused k ≡ lent_judged p t → record_refusal t k ≡ record_step p t e
+  unfolding record_step and_then
+  step_refused k bad = rw (← bad)
 
-    pub step_performed : judged ≡ Judgements.Sound → (answer : Answer) (u : Tables)
-        → record_step_of answer u ≡ record_applied p t e → record_step_of answer u ≡ record_step p t e
-    step_performed told answer u done = done ∙ step_applied (sym of_judged ∙ ap judged_outcome told)
+  pub step_performed : accepted tt ≡ lent_judged p t → (r : RecordStep) → r ≡ record_applied p t e → r ≡ record_step p t e
+  step_performed ok r done = done ∙ step_applied (sym ok)

@@ -15,20 +15,20 @@ pub mod Laws
 pub mod Parts
 pub mod Plain
 pub mod Summary
-use Rattle.std.specs.Prelude.{ℕ, ◌+◌, ◌*◌, Bool, not, cond, List, ◌++◌, leb, eqb, take, drop}
+use Rattle.std.specs.Prelude.{ℕ, ◌+◌, ◌*◌, Bool, not, cond, List, ◌++◌, leb, eqb, take, drop, Result}
 use Rattle.message.specs.declared.Plan.{Plan}
-use Rattle.message.specs.Outcome.{Outcome, accepted, refused, and_then, refuse_if}
+use Rattle.message.specs.Outcome.{Outcome, accepted, refused, and_then, refuse_if, outcome}
 use Rattle.slots.specs.Table.{messages}
 use Rattle.slots.specs.View.{View, view_table}
 use Rattle.change.specs.declared.Sent.{Sent}
-use Rattle.change.specs.declared.Answer.{Answer}
-use Rattle.change.specs.Change.{Step, answer_outcome}
+use Rattle.change.specs.Change.{Step}
 use Rattle.event.specs.Event.{kind_of, who_of, is_event}
 use Rattle.rm.specs.Rm.{rm_step}
 use Rattle.acceptor.specs.Acceptor.{acceptor_step}
 use Rattle.inbox.specs.Inbox.{decided}
 use Rattle.summary.specs.Summary.{decided_or_declined}
 use Rattle.leader.specs.Leader.{stands, is_summary, leader_step_by, summary_after}
+use Rattle.message.specs.declared.Refusal.{Refusal}
 pub use Rattle.opening.specs.Opening.{Tables, tables_of, with_states, with_votes, with_network, with_inboxes, with_summary, Opening, opening_of, opened}
 unfoldable pub use Rattle.opening.specs.Opening.{inbox_size, are_lengths, lengths_judged, open_judged, zeroed, record_open}
 unfoldable pub use Rattle.judging.specs.Judging.{inbox_of, are_inboxes, record_judged}
@@ -54,8 +54,8 @@ pub record RecordStep : Type 0 where
   pub tables : Tables
 
 -- the answer's enum and the tables at exit
-abbrev pub record_step_of : Answer → Tables → RecordStep
-record_step_of answer t = record { answer = answer_outcome answer; tables = t }
+abbrev pub record_step_of : Result Sent Refusal → Tables → RecordStep
+record_step_of answer t = record { answer = outcome answer; tables = t }
 
 -- a refused call: the number, and the tables as they were
 abbrev pub record_refusal : Tables → ℕ → RecordStep

@@ -1,7 +1,7 @@
 #![tactic(auto)]
-// The order record: the event call of all nine kinds (document 01, "The plan and four tables" and "Refusals by place"; document 02, Paper 5). Opening a record is the
-// crate `opening`, judging one the crate `judging`, what an event comes to on it the crate `verdict`. Message bytes are below the roles' steps, and
-// these below `verdict`, which sees only what each role promises.
+// The order record: the event call of all nine kinds (document 01, "The plan and four tables" and "Refusals by place"; document 02, Paper 5).
+// Opening a record is the crate `opening`, judging one the crate `judging`, what an event comes to on it the crate `verdict`. Message bytes
+// are below the roles' steps, and these below `verdict`, which sees only what each role promises.
 //
 //     store_in_inbox   stores in a leader's inbox, a part of I
 //     update_table     changes W, Q or the leader's inbox
@@ -11,21 +11,25 @@
 //     judge_lent       rows 1 to 6, then 20: `judging::judge`, then the summary
 //     step             the event call: `judge_lent`, then `perform`
 //
-// Each is lent what it changes of W (`states`), Q (`votes`), N (`network`), I (`inboxes`) and the summary, of any content and length.
+// Each is lent what it changes of W (`states`), Q (`votes`), N (`network`), I (`inboxes`) and the summary, of any content and length; they stay five
+// slices, as `opening::Lent` says.
 ghost use Rattle.std.specs.Prelude.{List, ◌≡◌, ℕ, ◌<◌};
+ghost use Rattle.message.specs.Outcome.{outcome};
 ghost use Rattle.slots.specs.View.Bytes.{view_bytes};
-ghost use Rattle.change.specs.Change.{judged_outcome, verdict_outcome};
+ghost use Rattle.opening.specs.Opening.{lent};
 ghost use Rattle.summary.specs.Summary.{marked_at, decided_bytes};
 ghost use Rattle.record.specs.Record.{tables_of, inbox_of, with_inbox, lent_judged, record_step_of, record_step};
 ghost use Rattle.record.specs.Record.Applied.{kept_inbox, changed, applied_to, record_applied};
 
-use change::{Answer, Judged, Update, Verdict};
-use message::Plan;
-use slots::Store;
+use change::{Change, Sent, Update};
+use event::Kind;
+use message::{Plan, Refusal};
+use opening::Lent;
+use slots::Put;
 
 // Stores in a leader's inbox, a part of I; there is none past the last leader.
-fn store_in_inbox(plan: Plan, inboxes: &mut [u8], leader: u8, store: Store)
-    ensures { inboxes.new ≡ kept_inbox plan inboxes.old leader store }
+fn store_in_inbox(plan: Plan, inboxes: &mut [u8], leader: u8, put: Option<Put>)
+    ensures { inboxes.new ≡ kept_inbox plan inboxes.old leader put }
 {
     if plan.leaders <= leader {
         return;
@@ -34,7 +38,7 @@ fn store_in_inbox(plan: Plan, inboxes: &mut [u8], leader: u8, store: Store)
     let from = leader as usize * size;
     let to = from + size;
     let inbox = &mut inboxes[from..to];
-    slots::apply_store(plan, inbox, store);
+    slots::apply_store(plan, inbox, put);
 }
 
 // Changes the table that the update is for: W, Q or the leader's inbox.
@@ -52,11 +56,12 @@ fn update_table(
     match update {
         Update::State { who, state } => slots::set_byte(states, who, state),
         Update::Vote { at, mbal, bal, val } => change::set_vote(votes, at, mbal, bal, val),
-        Update::Inbox(store) => store_in_inbox(plan, inboxes, leader, store),
+        Update::Inbox(put) => store_in_inbox(plan, inboxes, leader, put),
     }
 }
 
-// Stores what a verdict accepts and answers, whatever the summary; a refusal changes no byte. One call for all roles, so that the compiler puts it in its place.
+// Stores what a verdict accepts and answers, whatever the summary; a refusal changes no byte. One call for all roles, so that the compiler
+// puts it in its place.
 fn apply(
     plan: Plan,
     states: &mut [u8],
@@ -64,20 +69,15 @@ fn apply(
     network: &mut [u8],
     inboxes: &mut [u8],
     leader: u8,
-    verdict: Verdict,
-) -> Answer
+    verdict: Result<Change, Refusal>,
+) -> Result<Sent, Refusal>
     ensures { (s : List ℕ) → record_step_of result (tables_of states.new votes.new network.new inboxes.new s) ≡
-        applied_to plan leader (tables_of states.old votes.old network.old inboxes.old s) (verdict_outcome verdict) }
+        applied_to plan leader (tables_of states.old votes.old network.old inboxes.old s) (outcome verdict) }
 {
-    let Verdict::Accepted(change) = verdict else {
-        return Answer::Refused(change::verdict_number(verdict));
-    };
-    let update = change.table;
-    let store = change.network;
-    let sent = change.sent;
-    update_table(plan, states, votes, inboxes, leader, update);
-    slots::apply_store(plan, network, store);
-    Answer::Accepted(sent)
+    let change = verdict?;
+    update_table(plan, states, votes, inboxes, leader, change.table);
+    slots::apply_store(plan, network, change.network);
+    Ok(change.sent)
 }
 
 // What the slot of N holds was received by the leader: its bytes of the summary are marked by its inbox.
@@ -115,43 +115,36 @@ pub fn perform(
     inboxes: &mut [u8],
     summary: &mut [u8],
     event: &[u8],
-) -> Answer
+) -> Result<Sent, Refusal>
     ensures { record_step_of result (tables_of states.new votes.new network.new inboxes.new summary.new) ≡
         record_applied plan (tables_of states.old votes.old network.old inboxes.old summary.old) event.now }
 {
-    let verdict = verdict::evaluate(plan, states, votes, network, inboxes, summary, event);
-    let leader = message::byte_at(event, 1);
-    let answer = apply(plan, states, votes, network, inboxes, leader, verdict);
-    let Answer::Accepted(sent) = answer else {
-        return answer;
+    let tables = Lent {
+        states,
+        votes,
+        network,
+        inboxes,
+        summary,
     };
-    if message::byte_at(event, 0) == 4 {
+    let verdict = verdict::evaluate(plan, tables, event);
+    let leader = message::byte_at(event, 1);
+    let sent = apply(plan, states, votes, network, inboxes, leader, verdict)?;
+    if message::byte_at(event, 0) == Kind::Receipt as u8 {
         let slot = event::slot_number(event);
         mark_part(plan, network, inboxes, summary, leader, slot);
     }
-    Answer::Accepted(sent)
+    Ok(sent)
 }
 
 // What the event call judges of all that is lent: what `judging::judge` refuses, then 20 for the summary.
-fn judge_lent(
-    plan: Plan,
-    states: &[u8],
-    votes: &[u8],
-    network: &[u8],
-    inboxes: &[u8],
-    summary: &[u8],
-) -> Judged
-    ensures { judged_outcome result ≡ lent_judged plan
-        (tables_of states.now votes.now network.now inboxes.now summary.now) }
+fn judge_lent(plan: Plan, tables: Lent) -> Result<(), Refusal>
+    ensures { outcome result ≡ lent_judged plan (lent tables.entry) }
 {
-    let judged = judging::judge(plan, states, votes, network, inboxes);
-    let Judged::Sound = judged else {
-        return judged;
-    };
-    if !summary::is_summary(summary, plan.rms as usize * plan.leaders as usize) {
-        return Judged::Refused(20);
+    judging::judge(plan, tables)?;
+    if !summary::is_summary(tables.summary, plan.rms as usize * plan.leaders as usize) {
+        return Err(Refusal::Summary);
     }
-    Judged::Sound
+    Ok(())
 }
 
 // The event call: what `judge_lent` refuses, and then as `perform`; a refusal changes no byte.
@@ -163,13 +156,17 @@ pub fn step(
     inboxes: &mut [u8],
     summary: &mut [u8],
     event: &[u8],
-) -> Answer
+) -> Result<Sent, Refusal>
     ensures { record_step_of result (tables_of states.new votes.new network.new inboxes.new summary.new) ≡
         record_step plan (tables_of states.old votes.old network.old inboxes.old summary.old) event.now }
 {
-    let judged = judge_lent(plan, states, votes, network, inboxes, summary);
-    match judged {
-        Judged::Refused(number) => Answer::Refused(number),
-        Judged::Sound => perform(plan, states, votes, network, inboxes, summary, event),
-    }
+    let tables = Lent {
+        states,
+        votes,
+        network,
+        inboxes,
+        summary,
+    };
+    judge_lent(plan, tables)?;
+    perform(plan, states, votes, network, inboxes, summary, event)
 }

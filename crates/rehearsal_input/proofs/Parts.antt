@@ -3,7 +3,8 @@
 --     events_part     the events' bytes
 --     event_part      one event
 -- Assumes nothing.
-use Prim.Native.Nat.{ℕ, ◌+◌, ◌-◌, ◌*◌, ◌≤◌, min}
+use Prim.Native.Nat.{ℕ, ◌+◌, ◌-◌, ◌*◌, ◌^◌, ◌≤◌, ◌<◌, min}
+use Rattle.std.proofs.lemmas.List.{take_rest}
 use mathlib.Core.Bool.{true, false}
 use mathlib.Core.List.{List}
 use mathlib.Core.Path.{◌≡◌, sym}
@@ -33,9 +34,12 @@ events_part input end from e f =
     let size : end - from ≡ min 32768 (length (drop 5 input)) = rw (length-drop 5 input) (omega arith) in
     rw (size, start, drop_least 5 input) (take_least 32768 (drop 5 input))
 
-pub event_part : (events : List ℕ) (k from size : ℕ) → from ≡ min (4 * k) (length events) → size ≡ min 4 (length events - from)
-    → take (from + size - from) (drop from events) ≡ event_at events k
+pub event_part : (events : List ℕ) (k : ℕ) → length events < 2 ^ 64 → (from : ℕ) → from ≡ min (min (k * 4) (2 ^ 64 - 1)) (length events)
+    → (size : ℕ) → size ≡ min (length (take (length events - from) (drop from events))) 4
+    → take size (take (length events - from) (drop from events)) ≡ event_at events k
 unfolding event_at
-event_part events k from size f s =
-    let cut : from + size - from ≡ min 4 (length (drop (4 * k) events)) = rw (length-drop (4 * k) events) (omega arith) in
-    rw (cut, f, drop_least (4 * k) events) (take_least 4 (drop (4 * k) events))
+event_part events k fits from f size s =
+    let start : from ≡ min (4 * k) (length events) = omega arith in
+    let rest = take_rest events from in
+    let cut : size ≡ min 4 (length (drop from events)) = rw (← rest) (omega arith) in
+    rw (rest, cut, start, drop_least (4 * k) events) (take_least 4 (drop (4 * k) events))

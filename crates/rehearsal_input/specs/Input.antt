@@ -1,6 +1,6 @@
 -- The input of a rehearsal (document 01, "The rehearsal": "n, A, L, then events (at most 8,192; the rest is ignored)"; document 02, Paper 1:
 -- the order number "as two bytes after L").
---     plan_size, plan_of, plan_in, plan_outcome  the plan that an input begins with, or refusal 1; what the code's enum stands for
+--     plan_size, plan_of, plan_in     the plan that an input begins with, or refusal 1
 --     events_in                       the bytes of the events after it
 --     event_count, event_at           how many events they are, and the k-th, from 0 on
 -- Their laws are in proofs/Input/Laws.antt. Assumes nothing.
@@ -8,8 +8,6 @@ use Rattle.std.specs.Prelude.{ℕ, ◌+◌, ◌*◌, ◌/◌, not, List, ltb, le
 use Rattle.message.specs.declared.Plan.{Plan}
 use Rattle.message.specs.Outcome.{Outcome, accepted, refused, refuse_if}
 use Rattle.message.specs.Plan.{is_plan}
-use Rattle.rehearsal_input.specs.declared.PlanRead.{PlanRead}
-use Rattle.rehearsal_input.specs.declared.PlanRead.TheVariants.{Given, Refused}
 
 -- "n, A, L" and the order number
 abbrev pub plan_size : ℕ
@@ -25,11 +23,6 @@ plan_in input =
     refuse_if (ltb (length input) plan_size) 1
     (refuse_if (not (is_plan (plan_of input))) 1
     (accepted (plan_of input)))
-
--- what the enum stands for
-abbrev pub plan_outcome : PlanRead → Outcome Plan
-plan_outcome (Given p) = accepted p
-plan_outcome (Refused number) = refused number
 
 -- "then events (at most 8,192; the rest is ignored)", four bytes each
 unfoldable pub events_in : List ℕ → List ℕ

@@ -1,44 +1,54 @@
--- Text put into a buffer, byte by byte.
---     words_step, words_full, words_end     what is left to put from here gives what was to put from the start
---     put_as                                a text by another name
---     line_one, line_two, line_three        the bytes of a number's line
+-- Text put into a buffer.
+--     words_put            what stands in the buffer after the part that has room is copied
+--     two_put              a text and then another, as one
+--     line_decimal         a number's digits and LF
 -- Assumes nothing.
-use Prim.Native.Nat.{ℕ, suc, ◌+◌, ◌/◌, ◌%◌, ◌≤◌, ◌<◌}
-use mathlib.Core.List.{List, [], ◌∷◌}
-use mathlib.Core.Path.{◌≡◌, sym, ◌∙◌, ap}
-use native.Mathlib.Numerals.{add-one}
+use Prim.Native.Nat.{ℕ, ◌+◌, ◌-◌, ◌/◌, ◌%◌, ◌<◌, min}
+use mathlib.Core.Bool.{Bool, true, false}
+use mathlib.Core.List.{List, [], ◌∷◌, ◌++◌, append_assoc}
+use mathlib.Core.Path.{◌≡◌, refl, sym, ◌∙◌, ap}
 use native.Mathlib.Omega.{arith}
-use lib.ListN.{length, get_or, drop, set, drop_of_length-le}
-use lib.Seq.{drop-cons}
-use borrow.Author.Tests.{lt-ltb, le-ltb}
-use Rattle.rehearsal_text.specs.Text.{digit, line, Put, put_of, put}
-use Rattle.rehearsal_text.proofs.Text.Laws.{put_none, put_room, put_full}
+use lib.ListN.{length, take, drop}
+use borrow.Rule.Slice.PartMut.{put_mid}
+use Rattle.std.specs.Prelude.{ltb}
+use Rattle.std.specs.Fmt.{decimal}
+use Rattle.std.proofs.Common.{length-take-le, drop-drop, ltb-true, ltb-false}
+use Rattle.std.proofs.lemmas.Fmt.{decimal_digit, decimal_step}
+use Rattle.rehearsal_text.specs.Text.{line, Put, put_of, put}
+use Rattle.rehearsal_text.proofs.Text.Laws.{put_then, put_most, put_within}
 
-module _ (words output : List ℕ) (end i : ℕ) (whole : Put) (inv : put end (drop i words) output ≡ whole) where
-  pub words_step : i < length words → end < length output → put (end + 1) (drop (i + 1) words) (set output end (get_or words i 0)) ≡ whole
-  words_step h room =
-      rw (add-one end, add-one i)
-      (sym (put_room end (get_or words i 0) (drop (suc i) words) output room)
-      ∙ ap (λ (l : List ℕ). put end l output) (sym (drop-cons words i 0 h)) ∙ inv)
+pub words_put : (at m : ℕ) (words output part : List ℕ) → at < length output → m ≡ min (length words) (length output - at) → part ≡ take m words
+    → put_of (at + m) (put_mid at (at + m - at) output part) ≡ put at words output
+words_put at m words output part room most is =
+    let long = length-take-le m words (omega arith) in
+    let size : at + m - at ≡ m = omega arith in
+    let within = put_within at (take m words) output (omega arith) in
+    rw (is, size)
+    (ap (λ (l : List ℕ). put_of (at + m) (take at output ++ (take m words ++ l))) (drop-drop m at output)
+    ∙ ap (put_of (at + m)) (sym (append_assoc (take at output) (take m words) (drop (at + m) output)))
+    ∙ sym (rw long at within)
+    ∙ put_most at m words output (omega arith))
 
-  pub words_full : length output ≤ end → put_of end output ≡ whole
-  words_full h = sym (put_full end (drop i words) output h) ∙ inv
+pub two_put : (at : ℕ) (a b named output : List ℕ) → a ++ b ≡ named → (o q : Put) → o ≡ put at a output → q ≡ put o.end b o.buffer → q ≡ put at named output
+two_put at a b named output is o q one two =
+    two ∙ ap (λ (x : Put). put x.end b x.buffer) one ∙ sym (put_then at a b output) ∙ ap (λ (l : List ℕ). put at l output) is
 
-  pub words_end : length words ≤ i → put_of end output ≡ whole
-  words_end h = sym (put_none end output) ∙ ap (λ (l : List ℕ). put end l output) (sym (drop_of_length-le words h)) ∙ inv
-
-pub put_as : {text named : List ℕ} → text ≡ named → (at : ℕ) (output : List ℕ) {s : Put} → s ≡ put at text output → s ≡ put at named output
-put_as e at output h = h ∙ ap (λ (l : List ℕ). put at l output) e
-
-module _ (n : ℕ) where
-  pub line_one : n < 10 → digit (n % 10) ∷ 10 ∷ [] ≡ line n
-  unfolding line
-  line_one h = rw (lt-ltb n 10 h)
-
-  pub line_two : 10 ≤ n → n < 100 → digit (n / 10 % 10) ∷ digit (n % 10) ∷ 10 ∷ [] ≡ line n
-  unfolding line
-  line_two low high = rw (le-ltb n 10 low, lt-ltb n 100 high)
-
-  pub line_three : 100 ≤ n → digit (n / 100) ∷ digit (n / 10 % 10) ∷ digit (n % 10) ∷ 10 ∷ [] ≡ line n
-  unfolding line
-  line_three high = rw (le-ltb n 10 (omega arith), le-ltb n 100 high)
+pub line_decimal : (n : ℕ) → n < 256 → decimal n ++ (10 ∷ []) ≡ line n
+unfolding line
+line_decimal n small = go (ltb n 10) refl (ltb n 100) refl
+  where
+    go : (one : Bool) → ltb n 10 ≡ one → (two : Bool) → ltb n 100 ≡ two → decimal n ++ (10 ∷ []) ≡ line n
+    go true e two f =
+        let h = ltb-true n 10 e in
+        let ones : n % 10 ≡ n = omega arith in
+        rw (e, decimal_digit n h, ones)
+    go false e true f =
+        let low = ltb-false n 10 e in
+        let high = ltb-true n 100 f in
+        let tens : n / 10 % 10 ≡ n / 10 = omega arith in
+        rw (e, f, decimal_step n low (omega arith), decimal_digit (n / 10) (omega arith), tens)
+    go false e false f =
+        let low = ltb-false n 10 e in
+        let high = ltb-false n 100 f in
+        let hundreds : n / 100 ≡ n / 10 / 10 = omega arith in
+        rw (e, f, decimal_step n low (omega arith), decimal_step (n / 10) (omega arith) (omega arith), decimal_digit (n / 10 / 10) (omega arith), hundreds)

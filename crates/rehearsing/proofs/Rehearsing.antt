@@ -15,15 +15,15 @@ use lib.ListN.{length, take}
 use lib.Seq.{length-take-le}
 use borrow.Author.Tests.{lt-ltb, le-ltb}
 use Rattle.message.specs.declared.Plan.{Plan}
-use Rattle.message.specs.Outcome.{accepted}
+use Rattle.message.specs.Outcome.{accepted, outcome, refusal_number}
 use Rattle.message.specs.Plan.{is_plan}
 use Rattle.message.proofs.PlanLaws.{plan_bounds}
 use Rattle.slots.specs.Table.{is_table_length}
 use Rattle.record.specs.Record.{Tables, tables_of, Opening, record_open, lent_judged}
 use Rattle.safety.specs.Lists.{Call}
-use Rattle.rehearsal_input.specs.declared.PlanRead.{PlanRead}
-use Rattle.rehearsal_input.specs.declared.PlanRead.TheVariants.{Given, Refused}
-use Rattle.rehearsal_input.specs.Input.{plan_in, plan_outcome, events_in}
+use Rattle.message.specs.declared.Refusal.{Refusal}
+use Rattle.std.specs.Prelude.{Result, Ok, Err}
+use Rattle.rehearsal_input.specs.Input.{plan_in, events_in}
 use Rattle.rehearsal_input.proofs.Input.Laws.{plan_in_is}
 use Rattle.rehearsal_input.proofs.Theorems.{events_count}
 use Rattle.rehearsal_text.specs.Text.{line, Put, put_of, put}
@@ -78,10 +78,10 @@ module _ (input output : List ℕ) where
       let whole = put_within 0 (rehearsed input) output (omega arith) in
       rw (le-ltb (length output) 24586 h) (done ∙ ap (λ (l : List ℕ). put 0 l output) is ∙ rw zero_more at whole)
 
-module _ (input : List ℕ) (begun : PlanRead) (read : plan_outcome begun ≡ plan_in input) where
-  module _ (p : Plan) (given : begun ≡ Given p) where
+module _ (input : List ℕ) (begun : Result Plan Refusal) (read : outcome begun ≡ plan_in input) where
+  module _ (p : Plan) (given : begun ≡ Ok p) where
     plan_is : plan_in input ≡ accepted p
-    plan_is = sym read ∙ ap plan_outcome given
+    plan_is = sym read ∙ ap outcome given
 
     pub given_plan : is_plan p ≡ true
     given_plan = plan_in_is input p plan_is
@@ -90,9 +90,9 @@ module _ (input : List ℕ) (begun : PlanRead) (read : plan_outcome begun ≡ pl
     unfolding rehearsed printed_for
     plan_given_lem events is = rw (plan_is, is)
 
-  pub plan_refused : (number : ℕ) → begun ≡ Refused number → line number ≡ rehearsed input
+  pub plan_refused : (refusal : Refusal) → begun ≡ Err refusal → line (refusal_number refusal) ≡ rehearsed input
   unfolding rehearsed printed_for
-  plan_refused number refusing = rw (sym read ∙ ap plan_outcome refusing)
+  plan_refused refusal refusing = rw (sym read ∙ ap outcome refusing)
 
 pub events_within : (input events : List ℕ) → events ≡ events_in input → length events ≤ 32768
 events_within input events is = let k = events_count input in rw is (omega arith)

@@ -5,8 +5,7 @@
 //     MAX_OUTPUT               the bytes of the longest output
 //     put_answers, put_cut     a line for each answer, and one for a cut last event
 //     run_events               the list call, the lines and the word
-//     run                      the record opened, on parts of tables that are long enough for every plan
-//     run_fresh                those tables
+//     run_fresh                the record opened, on parts of tables that are long enough for every plan
 //     rehearse                 the rehearsal
 //
 // Input and text are `rehearsal_input` and `rehearsal_text`, the calls `opening::open`, `batch::run` and `ending::ending_of`. What is
@@ -20,7 +19,6 @@ ghost use Rattle.rehearsing.specs.Rehearsal.{calls_in, fresh_tables, text_of, nu
 
 use event::EVENT_SIZE;
 use message::Plan;
-use rehearsal_input::PlanRead;
 
 // Three bytes for each of 8,192 events, and the longest word.
 pub const MAX_OUTPUT: usize = 24586;
@@ -40,51 +38,20 @@ const SUMMARY_SIZE: usize = 64;
 // An answer for each of the most events.
 const ANSWERS_SIZE: usize = 8192;
 
-fn states_table() -> [u8; STATES_SIZE]
-    ensures { length result ≡ 16 }
+// So many zeros. A proof that lends parts of `[0; N]` does not know how long it is; of what a function gives, it does.
+fn zeros<const N: usize>() -> [u8; N]
+    ensures { length result ≡ N }
 {
-    [0; STATES_SIZE]
-}
-
-fn votes_table() -> [u8; VOTES_SIZE]
-    ensures { length result ≡ 336 }
-{
-    [0; VOTES_SIZE]
-}
-
-fn network_table() -> [u8; NETWORK_SIZE]
-    ensures { length result ≡ 8192 }
-{
-    [0; NETWORK_SIZE]
-}
-
-fn inboxes_table() -> [u8; INBOXES_SIZE]
-    ensures { length result ≡ 32768 }
-{
-    [0; INBOXES_SIZE]
-}
-
-fn summary_table() -> [u8; SUMMARY_SIZE]
-    ensures { length result ≡ 64 }
-{
-    [0; SUMMARY_SIZE]
-}
-
-fn answers_table() -> [u8; ANSWERS_SIZE]
-    ensures { length result ≡ 8192 }
-{
-    [0; ANSWERS_SIZE]
+    [0; N]
 }
 
 // Puts a line for each answer, from the start on: where they end.
 fn put_answers(output: &mut [u8], answers: &[u8]) -> usize
     ensures { put_of result output.new ≡ put 0 (number_lines answers.now) output.old }
 {
-    let mut at: usize = 0;
-    let mut i: usize = 0;
-    while i < answers.len() {
-        at = rehearsal_text::put_line(output, at, answers[i]);
-        i += 1;
+    let mut at = 0;
+    for number in answers {
+        at = rehearsal_text::put_line(output, at, *number);
     }
     at
 }
@@ -99,7 +66,8 @@ fn put_cut(output: &mut [u8], at: usize, events: &[u8]) -> usize
     rehearsal_text::put_line(output, at, 7)
 }
 
-// Makes the events on a sound record, and puts their lines, and last the word.
+// Makes the events on a sound record, and puts their lines, and last the word. It alone is lent the five tables, one by one as `batch::run`
+// takes them.
 fn run_events(
     plan: Plan,
     states: &mut [u8],
@@ -108,11 +76,10 @@ fn run_events(
     inboxes: &mut [u8],
     summary: &mut [u8],
     events: &[u8],
-    answers: &mut [u8],
     output: &mut [u8],
 ) -> usize
     requires summary_value { lent_judged plan (tables_of states.old votes.old network.old inboxes.old summary.old) ≡ accepted tt }
-    requires events_len_bound { (length events.now ≤ 32768) × (length answers.old ≡ 8192) }
+    requires events_len_bound { length events.now ≤ 32768 }
     ensures { put_of result output.new ≡ put 0 (text_of plan
         (tables_of states.old votes.old network.old inboxes.old summary.old)
         (calls_in 8192 events.now)) output.old }
@@ -120,8 +87,9 @@ fn run_events(
     let count = events.len() / EVENT_SIZE;
     let end = count * EVENT_SIZE;
     let whole = &events[..end];
+    let mut answers = zeros::<ANSWERS_SIZE>();
     let answered = &mut answers[..count];
-    batch::run(
+    let _ = batch::run(
         plan, states, votes, network, inboxes, summary, whole, answered,
     );
     let lines_end = put_answers(output, answered);
@@ -129,25 +97,18 @@ fn run_events(
     rehearsal_text::put_ending(output, cut_end, ending::ending_of(states))
 }
 
-// Opens the record on parts of the tables, and makes the events.
-fn run(
-    plan: Plan,
-    states: &mut [u8],
-    votes: &mut [u8],
-    network: &mut [u8],
-    inboxes: &mut [u8],
-    summary: &mut [u8],
-    events: &[u8],
-    answers: &mut [u8],
-    output: &mut [u8],
-) -> usize
+// Opens a record on parts of tables that are long enough for every plan, and makes the events.
+fn run_fresh(plan: Plan, events: &[u8], output: &mut [u8]) -> usize
     requires plan_value { is_plan plan ≡ true }
-    requires states_len { (length states.old ≡ 16) × (length votes.old ≡ 336) × (length network.old ≡ 8192) × (length inboxes.old ≡ 32768)
-        × (length summary.old ≡ 64) }
-    requires events_len_bound { (length events.now ≤ 32768) × (length answers.old ≡ 8192) }
+    requires events_len_bound { length events.now ≤ 32768 }
     ensures { put_of result output.new ≡ put 0 (text_of plan (fresh_tables 1024 plan)
         (calls_in 8192 events.now)) output.old }
 {
+    let mut states = zeros::<STATES_SIZE>();
+    let mut votes = zeros::<VOTES_SIZE>();
+    let mut network = zeros::<NETWORK_SIZE>();
+    let mut inboxes = zeros::<INBOXES_SIZE>();
+    let mut summary = zeros::<SUMMARY_SIZE>();
     let states_end = plan.rms as usize;
     let votes_end = 3 * (plan.rms as usize * plan.acceptors as usize);
     let inboxes_end = plan.leaders as usize * NETWORK_SIZE;
@@ -156,11 +117,11 @@ fn run(
     let votes_part = &mut votes[..votes_end];
     let inboxes_part = &mut inboxes[..inboxes_end];
     let summary_part = &mut summary[..summary_end];
-    opening::open(
+    let _ = opening::open(
         plan,
         states_part,
         votes_part,
-        network,
+        &mut network,
         inboxes_part,
         summary_part,
     );
@@ -168,37 +129,10 @@ fn run(
         plan,
         states_part,
         votes_part,
-        network,
+        &mut network,
         inboxes_part,
         summary_part,
         events,
-        answers,
-        output,
-    )
-}
-
-// Makes the events on tables of its own.
-fn run_fresh(plan: Plan, events: &[u8], output: &mut [u8]) -> usize
-    requires plan_value { is_plan plan ≡ true }
-    requires events_len_bound { length events.now ≤ 32768 }
-    ensures { put_of result output.new ≡ put 0 (text_of plan (fresh_tables 1024 plan)
-        (calls_in 8192 events.now)) output.old }
-{
-    let mut states = states_table();
-    let mut votes = votes_table();
-    let mut network = network_table();
-    let mut inboxes = inboxes_table();
-    let mut summary = summary_table();
-    let mut answers = answers_table();
-    run(
-        plan,
-        &mut states,
-        &mut votes,
-        &mut network,
-        &mut inboxes,
-        &mut summary,
-        events,
-        &mut answers,
         output,
     )
 }
@@ -210,9 +144,8 @@ pub fn rehearse(input: &[u8], output: &mut [u8]) -> usize
     if output.len() < MAX_OUTPUT {
         return 0;
     }
-    let begun = rehearsal_input::plan_in(input);
-    match begun {
-        PlanRead::Given(plan) => run_fresh(plan, rehearsal_input::events_in(input), output),
-        PlanRead::Refused(number) => rehearsal_text::put_line(output, 0, number),
+    match rehearsal_input::plan_in(input) {
+        Ok(plan) => run_fresh(plan, rehearsal_input::events_in(input), output),
+        Err(refusal) => rehearsal_text::put_line(output, 0, refusal.number()),
     }
 }

@@ -1,5 +1,5 @@
 -- The proofs that belong to no one function.
+--     ByKind     from a read event's kind to the rows of the verdict
 --     Judging    from the judgement of the plan and both tables to the whole call
---     Choosing   kinds 0 and 1 by one call
+pub mod ByKind
 pub mod Judging
-pub mod Choosing

@@ -8,13 +8,12 @@
 -- Its laws are in Rm/Laws.antt. Assumes nothing.
 pub mod Laws
 pub mod Updates
-use Rattle.std.specs.Prelude.{ℕ, Bool, not, cond, List, ltb, leb, eqb, length, get_or}
+use Rattle.std.specs.Prelude.{ℕ, Bool, not, cond, List, ltb, leb, eqb, length, get_or, None}
 use Rattle.message.specs.declared.Plan.{Plan}
 use Rattle.message.specs.declared.Message.{Message}
 use Rattle.message.specs.declared.Message.TheVariants.{Phase1a, Phase1b, Phase2a, Phase2b, Decision}
 use Rattle.message.specs.Outcome.{Outcome, accepted, refused, and_then, refuse_if}
 use Rattle.message.specs.Plan.{is_plan}
-use Rattle.slots.specs.declared.Store.TheVariants.{Keep}
 use Rattle.slots.specs.All.{all}
 use Rattle.slots.specs.Table.{is_table_length, is_table}
 use Rattle.slots.specs.View.{View, view_table, sending}
@@ -46,7 +45,7 @@ rm_choose net who state next val =
 
 -- the state becomes the decision, and nothing is sent
 abbrev pub rm_decided : ℕ → ℕ → Outcome Change
-rm_decided who next = accepted (record { table = State who next; network = Keep; sent = Quiet })
+rm_decided who next = accepted (record { table = State who next; network = None; sent = Quiet })
 
 -- row 11; 1 is Commit, 2 Abort
 unfoldable pub rm_receive_decision : ℕ → ℕ → ℕ → Outcome Change

@@ -5,42 +5,47 @@
 //     judge      the plan and both tables: rows 1, 2, 3 and 5 of "Refusals by place"
 //     step       the whole call: `judge`, and then `rm::perform`
 ghost use Rattle.std.specs.Prelude.{◌≡◌};
-ghost use Rattle.change.specs.Change.{judged_outcome, step_of};
+ghost use Rattle.message.specs.Outcome.{outcome};
+ghost use Rattle.change.specs.Change.{step_of};
 ghost use Rattle.rm.specs.Rm.{rm_judged, rm_step};
 
-use change::{Answer, Judged};
-use message::Plan;
+use change::Sent;
+use message::{Plan, Refusal};
 
 // The plan, the lengths, W and N: 1, 2, 3 or 5.
-fn judge(plan: Plan, states: &[u8], network: &[u8]) -> Judged
-    ensures { judged_outcome result ≡ rm_judged plan states.now network.now }
+#[tactic(auto, unfolding(rm::specs::Rm::rm_judged, message::specs::Outcome::refuse_if))]
+fn judge(plan: Plan, states: &[u8], network: &[u8]) -> Result<(), Refusal>
+    ensures { outcome result ≡ rm_judged plan states.now network.now }
 {
     if !message::is_plan(plan) {
-        return Judged::Refused(1);
+        return Err(Refusal::Plan);
     }
     if states.len() != plan.rms as usize {
-        return Judged::Refused(2);
+        return Err(Refusal::Length);
     }
     if !slots::is_table_length(network.len()) {
-        return Judged::Refused(2);
+        return Err(Refusal::Length);
     }
     if !rm::are_states(states) {
-        return Judged::Refused(3);
+        return Err(Refusal::State);
     }
     if !tables::is_table(plan, network) {
-        return Judged::Refused(5);
+        return Err(Refusal::Network);
     }
-    Judged::Sound
+    Ok(())
 }
 
 // The step: what `judge` refuses, and then as `rm::perform`; a refusal changes no byte.
-pub fn step(plan: Plan, states: &mut [u8], network: &mut [u8], event: &[u8]) -> Answer
+#[tactic(auto, using(rm::proofs::Judging::step_sound), unfolding(rm::specs::Rm::rm_step, message::specs::Outcome::and_then))]
+pub fn step(
+    plan: Plan,
+    states: &mut [u8],
+    network: &mut [u8],
+    event: &[u8],
+) -> Result<Sent, Refusal>
     ensures { step_of result states.new network.new ≡
         rm_step plan states.old network.old event.now }
 {
-    let judged = judge(plan, states, network);
-    match judged {
-        Judged::Refused(number) => Answer::Refused(number),
-        Judged::Sound => rm::perform(plan, states, network, event),
-    }
+    judge(plan, states, network)?;
+    rm::perform(plan, states, network, event)
 }

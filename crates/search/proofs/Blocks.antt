@@ -3,9 +3,9 @@
 --     begins_form                  a slot that does not begin as the form does is not the form
 --     passed_start, _more, _one, none_next     none is the form so far: of no slot, further on, one slot further
 --     found_end, found_here        the end without a slot that is the form, and such a slot
---     row_further, found_row, passed_row     the same of a row
+--     found_row, passed_row     the same of a row
 -- Assumes nothing.
-use Prim.Native.Nat.{ℕ, suc, ◌+◌, ◌*◌, ◌≤◌, ◌<◌}
+use Prim.Native.Nat.{ℕ, ◌+◌, ◌*◌, ◌≤◌, ◌<◌}
 use mathlib.Core.List.{List}
 use mathlib.Core.Path.{◌≡◌, sym, ◌∙◌}
 use native.Mathlib.Decide.{ℕ_discrete, dec_le}
@@ -61,10 +61,6 @@ module _ (t : List ℕ) (form from : ℕ) where
 
   pub found_here : (end place : ℕ) → Passed t form from end place → IsForm t form place → Found t form from end place
   found_here end place p is = record { passed = p; is = λ l. is }
-
--- a row that begins before the end has a slot
-pub row_further : (place from to end : ℕ) → place < end → place ≤ from → from ≤ to → (from < end → from < to) → place < to
-row_further place from to end h on row some = elim (dec_le (suc from) end) [ yes l ↦ omega (arith, some l) | no l ↦ omega arith ]
 
 -- what is found in a row that begins where all before was passed
 module _ (t : List ℕ) (form end place from to r : ℕ) (before : Passed t form 0 end place) (rows : Passed t form place end from) (in_end : to ≤ end) (row : Found t form from to r) where

@@ -1,6 +1,6 @@
 -- A slot as one number: eight bytes are two words, the first of them the lower.
 --     low_byte, low_half, high_half      the lowest byte of a number, and the two words of a number of eight bytes
---     Pair, EightFrom                 two words as one number; the number of eight bytes of a list
+--     EightFrom                       the number of eight bytes of a list
 -- Words/Laws.antt says that slots are compared by their numbers. Assumes nothing.
 pub mod Laws
 use Rattle.std.specs.Prelude.{ℕ, ◌+◌, ◌/◌, ◌%◌, List, ◌≡◌}
@@ -16,11 +16,6 @@ low_half r = r % 0x100000000
 
 abbrev pub high_half : ℕ → ℕ
 high_half r = r / 0x100000000
-
--- `r` is two words as one number
-pub record Pair (low high r : ℕ) : Type 0 where
-  pub first : low_half r ≡ low
-  pub second : high_half r ≡ high
 
 -- `r` is the number of the eight bytes from `i` on
 pub record EightFrom (l : List ℕ) (i r : ℕ) : Type 0 where

@@ -3,7 +3,6 @@
 --     mark_none       nothing is decided
 --     mark_set        the bit is set
 --     decline_later, decline_other, decline_set     a 2a of a later ballot, of prepared, and the decline
---     mark_unused, mark_held     by what was read from the slot
 -- Assumes nothing.
 use Prim.Native.Nat.{ℕ, ◌-◌}
 use mathlib.Core.Bool.{Bool, true, false, cond}
@@ -11,14 +10,9 @@ use mathlib.Core.List.{List}
 use mathlib.Core.Path.{◌≡◌, refl, sym, ◌∙◌, ap}
 use lib.ListN.{get_or, set}
 use lib.Seq.{set-get_or}
-use Rattle.message.specs.declared.Message.{Message}
 use Rattle.message.specs.declared.Message.TheVariants.{Phase2a, Phase2b}
-use Rattle.message.specs.declared.Read.{Read}
-use Rattle.message.specs.declared.Read.TheVariants as Reads
-use Rattle.message.specs.Outcome.{Outcome}
-use Rattle.message.specs.Codec.{read_outcome}
 use Rattle.quorum.specs.Mask.{join}
-use Rattle.summary.specs.Summary.{marked, marked_at}
+use Rattle.summary.specs.Summary.{marked}
 use Rattle.summary.specs.Summary.Laws.{marked_no_decline}
 
 module _ (d : ℕ → ℕ → Bool) (s : List ℕ) (ins val : ℕ) (byte : ℕ) (is : byte ≡ get_or s ins 0) (bit : ℕ) (of-bit : bit ≡ val - 1)
@@ -56,10 +50,3 @@ module _ (s : List ℕ) (ins bal val : ℕ) where
       → (d : ℕ → ℕ → Bool) → s' ≡ marked d s (Phase2a ins bal val)
   unfolding marked
   decline_set first aborted byte is new of-new s' done d = rw (first, aborted) (done ∙ ap (set s ins) (of-new ∙ ap (λ (b : ℕ). join b 1) is))
-
-module _ (d : ℕ → ℕ → Bool) (s : List ℕ) (read : Read) (slot : Outcome Message) (of-slot : read_outcome read ≡ slot) where
-  pub mark_unused : (k : ℕ) → read ≡ Reads.Refused k → s ≡ marked_at d s slot
-  mark_unused k e = rw (← of-slot, e)
-
-  pub mark_held : (m : Message) → read ≡ Reads.Message m → (s' : List ℕ) → s' ≡ marked d s m → s' ≡ marked_at d s slot
-  mark_held m e s' done = rw (← of-slot, e) done

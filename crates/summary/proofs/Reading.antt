@@ -1,10 +1,9 @@
--- One bit of the bytes put together, for the instances below `i`.
+-- One bit of the first bytes put together.
 --     all_prepared, some_aborted   the conditions, for the instances below a count
---     all_next, some_next          one instance further: by `&` the bit stands for all, by `|` for some
---     all_short                    fewer bytes than instances: nothing stands past the end
---     all_end, some_end            none left
+--     all_fold, some_fold          by `&` the bit stands for all of them, by `|` for some
+--     all_short, some_past         fewer bytes than instances: nothing stands past the end
 -- Assumes nothing.
-use Prim.Native.Nat.{ℕ, zero, suc, ◌+◌, ◌-◌, ◌/◌, ◌%◌, ◌≤◌, ◌<◌, min}
+use Prim.Native.Nat.{ℕ, zero, suc, ◌-◌, ◌/◌, ◌%◌, ◌≤◌, ◌<◌, min}
 use mathlib.Core.Bool.{Bool, true, false, ◌&&◌, ◌||◌, true≢false, and_comm, or_comm}
 use mathlib.Core.List.{List}
 use mathlib.Core.Path.{◌≡◌, refl, sym, ◌∙◌, ap}
@@ -14,7 +13,9 @@ use native.Mathlib.Decide.{dec_le}
 use native.Mathlib.Omega.{arith}
 use lib.Bits.{bit_and, bit_or, and_mod, or_mod, or_shr}
 use lib.Dec.{eqb}
-use lib.ListN.{length, get_or, get_or-eq_default}
+use lib.ListN.{length, get_or, take, get_or-eq_default}
+use Rattle.std.specs.List.{fold}
+use Rattle.std.proofs.lemmas.List.Sums.{fold_more}
 use Rattle.quorum.specs.Mask.{has_bit}
 use Rattle.quorum.proofs.Mask.Laws.{has_bit_zero}
 use Rattle.inbox.specs.Inbox.{for_all, for_some}
@@ -43,22 +44,32 @@ all_prepared s n = for_all n (λ i. stands s i 1)
 abbrev pub some_aborted : List ℕ → ℕ → Bool
 some_aborted s n = for_some n (λ i. stands s i 2)
 
--- `all` and `any` are what the code has put together
-module _ (s : List ℕ) (i : ℕ) where
-  pub all_next : (all : ℕ) → eqb (all % 2) 1 ≡ all_prepared s i → eqb (bit_and all (get_or s i 0) % 2) 1 ≡ all_prepared s (i + 1)
+module _ (s : List ℕ) where
+  one_more : (op : ℕ → ℕ → ℕ) (first n : ℕ) → n < length s → fold op first (take (suc n) s) ≡ op (fold op first (take n s)) (get_or s n 0)
+  one_more op first n h = ap (λ (k : ℕ). fold op first (take k s)) (sym (add-one n)) ∙ fold_more op first s n 0 h
+
+  pub all_fold : (n : ℕ) → n ≤ length s → eqb (fold bit_and 1 (take n s) % 2) 1 ≡ all_prepared s n
   unfolding for_all stands has_bit
-  all_next all so =
-      rw (add-one i, lowest bit_and (λ x y. and_mod x y 1) ◌&&◌ refl refl refl refl all (get_or s i 0), so) (and_comm (all_prepared s i) (stands s i 1))
+  all_fold zero h = refl
+  all_fold (suc n) h =
+      ap (λ (x : ℕ). eqb (x % 2) 1) (one_more bit_and 1 n h)
+      ∙ lowest bit_and (λ x y. and_mod x y 1) ◌&&◌ refl refl refl refl (fold bit_and 1 (take n s)) (get_or s n 0)
+      ∙ ap (λ (b : Bool). b && stands s n 1) (all_fold n (omega arith))
+      ∙ and_comm (all_prepared s n) (stands s n 1)
 
-  pub some_next : (any : ℕ) → eqb (any / 2 % 2) 1 ≡ some_aborted s i → eqb (bit_or any (get_or s i 0) / 2 % 2) 1 ≡ some_aborted s (i + 1)
+  pub some_fold : (n : ℕ) → n ≤ length s → eqb (fold bit_or 0 (take n s) / 2 % 2) 1 ≡ some_aborted s n
   unfolding for_some stands has_bit
-  some_next any so =
-      rw (add-one i, or_shr any (get_or s i 0) 1, lowest bit_or (λ x y. or_mod x y 1) ◌||◌ refl refl refl refl (any / 2) (get_or s i 0 / 2), so)
-      (or_comm (some_aborted s i) (stands s i 2))
+  some_fold zero h = refl
+  some_fold (suc n) h =
+      ap (λ (x : ℕ). eqb (x / 2 % 2) 1) (one_more bit_or 0 n h)
+      ∙ ap (λ (x : ℕ). eqb (x % 2) 1) (or_shr (fold bit_or 0 (take n s)) (get_or s n 0) 1)
+      ∙ lowest bit_or (λ x y. or_mod x y 1) ◌||◌ refl refl refl refl (fold bit_or 0 (take n s) / 2) (get_or s n 0 / 2)
+      ∙ ap (λ (b : Bool). b || stands s n 2) (some_fold n (omega arith))
+      ∙ or_comm (some_aborted s n) (stands s n 2)
 
-  past : (v : ℕ) → length s ≤ i → stands s i v ≡ false
+  past : (i v : ℕ) → length s ≤ i → stands s i v ≡ false
   unfolding stands
-  past v h = ap (λ (b : ℕ). has_bit b (v - 1)) (get_or-eq_default s 0 h) ∙ has_bit_zero (v - 1)
+  past i v h = ap (λ (b : ℕ). has_bit b (v - 1)) (get_or-eq_default s 0 h) ∙ has_bit_zero (v - 1)
 
 pub all_short : (s : List ℕ) (n : ℕ) → length s < n → false ≡ all_prepared s n
 all_short s n h = go (all_prepared s n) refl
@@ -67,7 +78,7 @@ all_short s n h = go (all_prepared s n) refl
     go false e = refl
     go true e = absurd (true≢false (sym (for_all_all _ n e (length s) h) ∙ past s (length s) 1 (le_refl _)))
 
-some_past : (s : List ℕ) (m n : ℕ) → m ≡ min (length s) n → some_aborted s m ≡ some_aborted s n
+pub some_past : (s : List ℕ) (m n : ℕ) → m ≡ min (length s) n → some_aborted s m ≡ some_aborted s n
 unfolding for_some
 some_past s m zero e = let same : m ≡ zero = omega (arith, e) in ap (some_aborted s) same
 some_past s m (suc n) e =
@@ -75,13 +86,3 @@ some_past s m (suc n) e =
       | yes k ↦ rw (past s n 2 k) (some_past s m n (omega (arith, e, k)))
       | no k ↦ let same : m ≡ suc n = omega (arith, e, k) in ap (some_aborted s) same
     ]
-
-module _ (s : List ℕ) (i m : ℕ) (below : i ≤ m) (end : m ≤ i) where
-  same : i ≡ m
-  same = omega arith
-
-  pub all_end : (all : ℕ) → eqb (all % 2) 1 ≡ all_prepared s i → eqb (all % 2) 1 ≡ all_prepared s m
-  all_end all so = so ∙ ap (all_prepared s) same
-
-  pub some_end : (any n : ℕ) → m ≡ min (length s) n → eqb (any / 2 % 2) 1 ≡ some_aborted s i → eqb (any / 2 % 2) 1 ≡ some_aborted s n
-  some_end any n of-m so = so ∙ ap (some_aborted s) same ∙ some_past s m n of-m

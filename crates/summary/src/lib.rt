@@ -3,27 +3,25 @@
 // weight has declined.
 //
 //     is_summary                      row 20 of "Refusals by place"
-//     all_prepared, some_aborted      the conditions of kinds 7 and 8, read from it alone; covered, for how many instances it has a byte
+//     all_prepared, some_aborted      the conditions of kinds 7 and 8, read from it alone
 //     part_size                       how many bytes of a whole summary are a leader's
 //     mark_vote, mark_decline, mark_message, mark     what an accepted receipt does to it
 //
 // It is lent a leader's bytes of the summary, of any content and length. What each of them means stands in specs/.
-ghost use Rattle.std.specs.Prelude.{Bool, ◌≡◌, ℕ, ◌-◌, ◌/◌, min};
+ghost use Rattle.std.specs.Prelude.{Bool, ◌≡◌, ℕ, ◌/◌};
 ghost use Rattle.message.specs.declared.Message.TheVariants.{Phase2a, Phase2b};
 ghost use Rattle.slots.specs.View.Bytes.{view_bytes};
 ghost use Rattle.inbox.specs.Inbox.{for_all, for_some};
 ghost use Rattle.summary.specs.Summary.{is_summary, stands, marked, marked_at, decided_bytes};
 
-use message::{Message, Plan, Read};
+use message::{Message, Plan};
 
 // Whether it has this many bytes, none above 3; where not, 20.
+#[tactic(auto, unfolding(crate::specs::Summary::is_summary))]
 pub fn is_summary(summary: &[u8], count: usize) -> bool
     ensures { result ≡ is_summary count summary.now }
 {
-    if summary.len() != count {
-        return false;
-    }
-    slots::are_two_bits(summary)
+    summary.len() == count && slots::are_two_bits(summary)
 }
 
 // Kind 7: whether prepared stands for every instance: bit 0 of the bytes put together by `&`, so that no byte has a branch of its own.
@@ -35,35 +33,20 @@ pub fn all_prepared(plan: Plan, summary: &[u8]) -> bool
         return false;
     }
     let mut all = 1;
-    let mut i = 0;
-    while i < n {
-        all = all & summary[i];
-        i += 1;
+    for byte in &summary[..n] {
+        all &= *byte;
     }
     all % 2 == 1
-}
-
-// For how many instances a summary of so many bytes has a byte.
-fn covered(plan: Plan, size: usize) -> usize
-    ensures { result ≡ min size plan.rms }
-{
-    let n = plan.rms as usize;
-    if size < n {
-        return size;
-    }
-    n
 }
 
 // Kind 8: whether aborted stands for some instance: bit 1 of the bytes put together by `|`.
 pub fn some_aborted(plan: Plan, summary: &[u8]) -> bool
     ensures { result ≡ for_some plan.rms (λ i. stands summary.now i 2) }
 {
-    let n = covered(plan, summary.len());
+    let n = summary.len().min(plan.rms as usize);
     let mut any = 0;
-    let mut i = 0;
-    while i < n {
-        any = any | summary[i];
-        i += 1;
+    for byte in &summary[..n] {
+        any |= *byte;
     }
     any / 2 % 2 == 1
 }
@@ -83,24 +66,15 @@ pub fn part_size(plan: Plan, size: usize) -> usize
     size / leaders
 }
 
-// The bit of a value: 0 for prepared, 1 for aborted.
-fn bit_of(val: u8) -> u8
-    ensures { result ≡ val - 1 }
-{
-    if val == 0 {
-        return 0;
-    }
-    val - 1
-}
-
-// A 2b for (ins, val) sets val's bit of ins where Decided(ins, val). Where the bit stands already the inbox is not read.
+// A 2b for (ins, val) sets val's bit of ins, 0 for prepared and 1 for aborted, where Decided(ins, val). Where the bit stands already the inbox
+// is not read.
 fn mark_vote(plan: Plan, inbox: &[u8], summary: &mut [u8], ins: u8, val: u8)
     ensures { (acc bal : ℕ) → summary.new ≡
         marked (decided_bytes plan inbox.now) summary.old (Phase2b ins acc bal val) }
 {
     let at = ins as usize;
     let byte = message::byte_at(summary, at);
-    let with = quorum::insert_bit(byte, bit_of(val));
+    let with = quorum::insert_bit(byte, val.saturating_sub(1));
     if with == byte {
         return;
     }
@@ -132,21 +106,9 @@ fn mark_message(plan: Plan, inbox: &[u8], summary: &mut [u8], m: Message)
         marked (decided_bytes plan inbox.now) summary.old m }
 {
     match m {
-        Message::Phase1a { ins: _, bal: _ } => {}
-        Message::Phase1b {
-            ins: _,
-            acc: _,
-            mbal: _,
-            vote: _,
-        } => {}
         Message::Phase2a { ins, bal, val } => mark_decline(summary, ins, bal, val),
-        Message::Phase2b {
-            ins,
-            acc: _,
-            bal: _,
-            val,
-        } => mark_vote(plan, inbox, summary, ins, val),
-        Message::Decision { val: _ } => {}
+        Message::Phase2b { ins, val, .. } => mark_vote(plan, inbox, summary, ins, val),
+        Message::Phase1a { .. } | Message::Phase1b { .. } | Message::Decision { .. } => {}
     }
 }
 
@@ -155,9 +117,7 @@ pub fn mark(plan: Plan, inbox: &[u8], summary: &mut [u8], network: &[u8], slot: 
     ensures { summary.new ≡
         marked_at (decided_bytes plan inbox.now) summary.old ((view_bytes plan network.now).slot slot) }
 {
-    let answer = slots::message_at(network, slot);
-    let Read::Message(m) = answer else {
-        return;
-    };
-    mark_message(plan, inbox, summary, m);
+    if let Ok(m) = slots::message_at(network, slot) {
+        mark_message(plan, inbox, summary, m);
+    }
 }

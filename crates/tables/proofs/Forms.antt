@@ -1,13 +1,13 @@
 -- The bounds of a slot's bytes say what the reader says: a slot is a form exactly when it is used.
 --     plan_used, first_zero     no slot is used under a plan out of range, and none in a table that begins with 0
+--     slot_is                   the slots as the library takes them
 --     form_step                 the slot at a place
 -- Assumes nothing.
-use Prim.Native.Nat.{ℕ, ◌+◌, ◌-◌, ◌*◌, ◌/◌, ◌≤◌, ◌<◌}
+use Prim.Native.Nat.{ℕ, zero, suc, ◌+◌, ◌-◌, ◌*◌, ◌/◌, ◌≤◌, ◌<◌}
 use mathlib.Core.Bool.{Bool, true, false, not, ◌&&◌, cond, and_assoc, and-true}
 use mathlib.Core.List.{List, [], ◌∷◌, map}
 use mathlib.Core.Path.{◌≡◌, refl, sym, ◌∙◌, ap}
 use native.Mathlib.Decide.{ℕ_discrete}
-use native.Mathlib.Nat.{add-zero}
 use native.Mathlib.Omega.{arith}
 use lib.Dec.{ltb, lit≤}
 use lib.ListN.{length, get_or, take, drop, get_or-map}
@@ -22,8 +22,9 @@ use Rattle.message.proofs.Form.Laws.{known_map, map_length_zero, has_order_bytes
 use Rattle.message.proofs.Form.Maps.{length_1a, length_1b, length_1b_vote, length_2a, length_2b, length_decision}
 use Rattle.message.proofs.Form.Maps.{decoded_1a, decoded_1b, decoded_1b_vote, decoded_2a, decoded_2b, decoded_decision}
 use Rattle.message.proofs.Codec.Laws.{read_message_plan}
-use Rattle.slots.specs.Table.{Unused, Bad, slot_size, slots, is_zero, used_slot, read_slot, read_table, is_table}
+use Rattle.slots.specs.Table.{Unused, Bad, slot_size, slots_up_to, slots, is_zero, used_slot, read_slot, read_table, is_table}
 use Rattle.slots.specs.All.{all}
+use Rattle.std.specs.Simd.{first_chunks}
 use Rattle.slots.proofs.Table.Laws.{leading_used, read_slot_unused, is_table_first}
 use Rattle.slots.proofs.Eight.{slot_eight}
 use Rattle.tables.specs.Tables.Bounds.{is_within, is_within_at, put_row, put_bounds, bounds_of, Bounded, are_within, is_form}
@@ -83,7 +84,7 @@ module _ (p : Plan) where
     slot k = k ∷ b1 ∷ b2 ∷ b3 ∷ b4 ∷ b5 ∷ b6 ∷ b7 ∷ []
 
     Judged : ℕ → Type 0
-    Judged k = is_form (bounds_of p) (slot k) 0 ≡ is_used (read_slot p (slot k))
+    Judged k = is_form (bounds_of p) (slot k) ≡ is_used (read_slot p (slot k))
 
     used : (k len : ℕ) → is_zero (slot k) ≡ false → map_length k ≡ len → 1 ≤ len → len ≤ 8
         → is_used (read_slot p (slot k)) ≡ (is_in_range p (decode (take len (slot k))) && (has_order p len (take len (slot k)) && is_zero (drop len (slot k))))
@@ -201,25 +202,29 @@ module _ (p : Plan) where
           | no some ↦ known_map Judged judged_1a judged_1b judged_1b_vote judged_2a judged_2b judged_decision k some
         ]
 
--- a slot of a table by itself
-slot_form : (b : List (List ℕ)) (t : List ℕ) (at : ℕ)
-    → is_form b t at
-    ≡ is_form b (get_or t at 0 ∷ get_or t (at + 1) 0 ∷ get_or t (at + 2) 0 ∷ get_or t (at + 3) 0
-    ∷ get_or t (at + 4) 0 ∷ get_or t (at + 5) 0 ∷ get_or t (at + 6) 0 ∷ get_or t (at + 7) 0 ∷ []) 0
-unfolding is_form are_within is_within_at
-slot_form b t at = rw (add-zero at) refl
+-- the slots as the library takes them
+chunks_are : (n : ℕ) (t : List ℕ) → first_chunks slot_size n t ≡ slots_up_to n t
+unfolding slots_up_to
+chunks_are zero t = refl
+chunks_are (suc n) t = rw (chunks_are n (drop slot_size t)) refl
+
+pub slot_is : (t : List ℕ) (chunks : List (List ℕ)) (n k : ℕ) → chunks ≡ first_chunks slot_size (length t / slot_size) t → k < n
+    → get_or (take n chunks) k [] ≡ get_or (slots t) k []
+unfolding slots
+slot_is t chunks n k e h = get_or-take n chunks k [] h ∙ ap (λ (ss : List (List ℕ)). get_or ss k []) (e ∙ chunks_are (length t / slot_size) t)
 
 module _ {p : Plan} {bounds : List (List ℕ)} (b : Bounded p bounds) (t : List ℕ) where
-  form_at : (k : ℕ) → k < length t / slot_size → is_form bounds t (k * slot_size) ≡ used_at p t k
+  form_at : (k : ℕ) → k < length t / slot_size → is_form bounds (get_or (slots t) k []) ≡ used_at p t k
   unfolding used_at read_table Judged is_zero all
   form_at k h =
       rw b.rows
-      (slot_form (bounds_of p) t (k * slot_size)
+      (ap (is_form (bounds_of p)) (slot_eight t k h)
       ∙ judged p b.plan _ _ _ _ _ _ _ (get_or t (k * slot_size) 0)
       ∙ ap (λ (s : List ℕ). is_used (read_slot p s)) (sym (slot_eight t k h))
       ∙ ap is_used (sym (rw (read_slot_unused p [] refl) at (get_or-map (read_slot p) (slots t) k []))))
 
   -- one slot further
-  pub form_step : (k : ℕ) (c r : Bool) → k < length t / slot_size → c ≡ each (used_at p t) 0 k → r ≡ (c && is_form bounds t (k * slot_size))
-      → r ≡ each (used_at p t) 0 (k + 1)
-  form_step k c r h e x = each_suc (used_at p t) k c r e (x ∙ ap (λ (y : Bool). c && y) (form_at k h))
+  pub form_step : (k : ℕ) (s : List ℕ) (c r : Bool) → k < length t / slot_size → s ≡ get_or (slots t) k [] → c ≡ each (used_at p t) 0 k
+      → r ≡ (c && is_form bounds s) → r ≡ each (used_at p t) 0 (k + 1)
+  form_step k s c r h q e x =
+      each_suc (used_at p t) k c r e (x ∙ ap (λ (y : Bool). c && y) (ap (is_form bounds) q ∙ form_at k h))

@@ -1,13 +1,11 @@
 -- A byte beside its bounds.
---     over_more, over_none               by how much one byte is more than another
---     within_above, within_under         how far above the lowest it lies, round past 255
+--     within_beyond                      how far above the lowest it lies, round past 255, and how far beyond the span
 --     within_only, _any, _from, _value, _below, _most, _far     the kinds of bounds
 -- Assumes nothing.
-use Prim.Native.Nat.{ℕ, ◌+◌, ◌-◌, ◌≤◌, ◌<◌}
+use Prim.Native.Nat.{ℕ, ◌+◌, ◌-◌, ◌%◌, ◌≤◌, ◌<◌}
 use mathlib.Core.Bool.{true, false, ◌&&◌, ◌||◌, cond}
 use mathlib.Core.Path.{◌≡◌, refl, sym, ◌∙◌}
 use native.Mathlib.Decide.{dec_le, ℕ_discrete}
-use native.Mathlib.Nat.{not-suc-le-zero}
 use native.Mathlib.Omega.{arith}
 use lib.Dec.{leb, ltb, eqb, leb-zero}
 use borrow.Author.Tests.{eq-eqb, ne_eqb, le-leb, lt-leb, lt-ltb, le-ltb}
@@ -15,15 +13,16 @@ use Rattle.message.specs.Form.{is_value}
 use Rattle.tables.specs.Tables.Bounds.{is_within}
 use Rattle.message.proofs.Form.Maps.{is_value_bounds}
 
-pub over_more : (a b : ℕ) → b < a → eqb (a - b) 0 ≡ leb a b
-over_more a b h = rw (lt-leb a b h) (ne_eqb (a - b) 0 (λ e. not-suc-le-zero {n = 0} (omega arith)))
-
-pub over_none : (a b : ℕ) → a ≤ b → true ≡ leb a b
-over_none a b h = sym (le-leb a b h)
+over : (a b : ℕ) → eqb (a - b) 0 ≡ leb a b
+over a b = go (dec_le a b)
+  where
+    go : Dec (a ≤ b) → eqb (a - b) 0 ≡ leb a b
+    go (yes h) = rw (le-leb a b h) (eq-eqb (a - b) 0 (omega arith))
+    go (no h) = rw (lt-leb a b (omega arith)) (ne_eqb (a - b) 0 (λ e. absurd (omega (arith, h, e))))
 
 -- a byte is at most 255
 module _ (low byte span : ℕ) where
-  pub within_above : low ≤ byte → byte < 256 → leb (byte - low) span ≡ is_within low byte span
+  within_above : low ≤ byte → byte < 256 → leb (byte - low) span ≡ is_within low byte span
   unfolding is_within
   within_above x h = rw (le-leb low byte x) (go (ℕ_discrete span 0) (dec_le 255 span) (dec_le 255 (low + span)))
     where
@@ -38,18 +37,23 @@ module _ (low byte span : ℕ) where
       go (no z) (no k) (yes y) = rw (ne_eqb span 0 z, lt-leb 255 span (omega arith), le-leb 255 (low + span) y) (le-leb (byte - low) span (omega arith))
       go (no z) (no k) (no y) = rw (ne_eqb span 0 z, lt-leb 255 span (omega arith), lt-leb 255 (low + span) (omega arith))
 
-  pub within_under : byte < low → low < 256 → leb (byte + (255 - low) + 1) span ≡ is_within low byte span
+  within_under : byte < low → low < 256 → leb (byte + 256 - low) span ≡ is_within low byte span
   unfolding is_within
-  within_under x l = rw (lt-leb low byte x, around) (go (ℕ_discrete span 0) (dec_le 255 span))
+  within_under x l = rw (lt-leb low byte x) (go (ℕ_discrete span 0) (dec_le 255 span))
     where
-      around : byte + (255 - low) + 1 ≡ byte + 256 - low
-      around = omega arith
-
       go : Dec (span ≡ 0) → Dec (255 ≤ span)
           → leb (byte + 256 - low) span ≡ cond (eqb span 0) (eqb byte low) (leb 255 span || leb (byte + 256 - low) span)
       go (yes z) k = rw (eq-eqb span 0 z, ne_eqb byte low (λ e. omega (arith, e))) (lt-leb (byte + 256 - low) span (omega arith))
       go (no z) (yes k) = rw (ne_eqb span 0 z, le-leb 255 span k) (le-leb (byte + 256 - low) span (omega arith))
       go (no z) (no k) = rw (ne_eqb span 0 z, lt-leb 255 span (omega arith))
+
+  -- the byte's distance, round past 255, and how far that is above the span
+  pub within_beyond : low < 256 → byte < 256 → eqb ((byte + (256 - low)) % 256 - span) 0 ≡ is_within low byte span
+  within_beyond l h = over _ span ∙ go (dec_le low byte)
+    where
+      go : Dec (low ≤ byte) → leb ((byte + (256 - low)) % 256) span ≡ is_within low byte span
+      go (yes x) = let e : (byte + (256 - low)) % 256 ≡ byte - low = omega (arith, x) in rw e (within_above x h)
+      go (no x) = let e : (byte + (256 - low)) % 256 ≡ byte + 256 - low = omega (arith, x) in rw e (within_under (omega (arith, x)) l)
 
 -- the kinds of bounds
 pub within_only : (low b : ℕ) → is_within low b 0 ≡ eqb b low

@@ -2,7 +2,7 @@
 --     deliver_ruled         the rows, along the definition: 13 is tested last, and speaks of a message that was read, so none of 15 to 18 applies beside it
 --     sends_of_delivery     an accepted delivery has put the message into N
 -- Assumes nothing.
-use Rattle.std.specs.Prelude.{ℕ, true, not, false, List, ◌≡◌, length}
+use Rattle.std.specs.Prelude.{ℕ, true, not, false, List, ◌≡◌, length, None, Option, Some}
 use Rattle.std.proofs.Math.Bool.{false≢true}
 use Rattle.std.proofs.Math.Path.{refl, subst}
 use Rattle.std.proofs.Common.{sym, ◌∙◌}
@@ -18,8 +18,7 @@ use Rattle.message.proofs.Codec.Answers.{reader_ruled}
 use Rattle.message.specs.Rows.{Rows, guard, row, here, below}
 use Rattle.message.proofs.Rows.Laws.{Ruled}
 use Rattle.message.specs.Theorems.{bytes_rows}
-use Rattle.slots.specs.declared.Send.{Send}
-use Rattle.slots.specs.declared.Send.TheVariants as Sending
+use Rattle.slots.specs.declared.Sending.{Sending}
 use Rattle.slots.specs.Table.{is_table_length, is_table}
 use Rattle.slots.specs.View.{view_table}
 use Rattle.change.specs.declared.Sent.{Sent}
@@ -55,10 +54,10 @@ module _ (p : Plan) (network bytes : List ℕ) where
       go (refused k) is r = below (λ ((m, e, full), _). accepted_not_refused (sym is ∙ e), r)
       go (accepted m) is r = put ((view_table p network).send m) refl
         where
-          put : (send : Send) → (view_table p network).send m ≡ send → Ruled (deliver_put p network send).answer (row 13 (NoPlace p network bytes) (bytes_rows p bytes))
-          put Sending.NoRoom at = here (refl, ((m, is, no_room p network m at), tt))
-          put (Sending.Slot slot store) at =
-              (λ ((n, e, full), _). full (subst (HasRoom p network) (accepted_inj (sym is ∙ e)) (has_room p network m slot store at)), r)
+          put : (send : Option Sending) → (view_table p network).send m ≡ send → Ruled (deliver_put p network send).answer (row 13 (NoPlace p network bytes) (bytes_rows p bytes))
+          put None at = here (refl, ((m, is, no_room p network m at), tt))
+          put (Some s) at =
+              (λ ((n, e, full), _). full (subst (HasRoom p network) (accepted_inj (sym is ∙ e)) (has_room p network m s.slot s.put at)), r)
 
   pub deliver_ruled : Ruled (deliver_step p network bytes).answer (deliver_rows p network bytes)
   unfolding deliver_step deliver_judged

@@ -14,17 +14,17 @@ loop-i-preserved c =
     let loop = c.loop-i in
     let kept = c.perform-answer.auto in
     let left = c.perform-answer.new in (
-      running_next _ _ _ _ _ _ loop.invariant.0 c.loop-i-test.true
+      running_next _ _ _ _ _ _ loop.invariant.0 (rw loop.invariant.6 c.loop-i-test.true)
           (record_step_of c.perform-answer.result (tables_of left.states left.votes left.network left.inboxes left.summary)) c.perform-answer.ensures
-          c.answer_number.result c.answer_number.ensures,
+          c.number_of.result c.number_of.ensures,
       kept.states ∙ loop.invariant.1,
       kept.votes ∙ loop.invariant.2,
       kept.network ∙ loop.invariant.3,
       kept.inboxes ∙ loop.invariant.4,
       kept.summary ∙ loop.invariant.5,
-      length-set loop.answers loop.i c.answer_number.result ∙ loop.invariant.6,
+      length-set loop.answers loop.i c.number_of.result ∙ loop.invariant.6,
     )
 
 -- the list's end
 pub returns : goal.returns
-returns c = running_end _ _ _ _ _ _ c.loop-i.invariant.0 c.loop-i-test.false
+returns c = running_end _ _ _ _ _ _ c.loop-i.invariant.0 (rw c.loop-i.invariant.6 c.loop-i-test.false)

@@ -1,5 +1,4 @@
 -- What the loop of `batch::run_events` keeps: one event further, the answers so far and the calls that are left come to the same. Assumes nothing.
-use Prim.Native.Nat.{◌-◌}
 use mathlib.Core.Path.{◌≡◌}
 use lib.ListN.{length}
 use Rattle.record.specs.Record.{tables_of}
@@ -16,6 +15,3 @@ invariant-loop-i l =
     × (length l.inboxes ≡ length l.initial.inboxes)
     × (length l.summary ≡ length l.initial.summary)
     × (length l.answers ≡ length l.initial.answers)
-
-abbrev pub decreases-loop-i : goal.decreases-loop-i
-decreases-loop-i l = length l.initial.answers - l.i

@@ -1,5 +1,4 @@
 -- `change::apply_update` meets its contract: each arm says which update it is. Assumes nothing.
-use borrow.Author.Rules.{rules}
 use Rattle.change.proofs.apply_update.Goals as goal
 
 pub returns-in-State : goal.returns-in-State

@@ -1,6 +1,5 @@
 -- `change::set_vote` meets its contract: three stores, and none where the place is past the end. Assumes nothing.
 use Rattle.change.proofs.Applying.{set_vote_out, set_vote_in}
-use borrow.Author.Rules.{rules}
 use Rattle.change.proofs.set_vote.Goals as goal
 
 pub returns-then-votes-at : goal.returns-then-votes-at

@@ -3,12 +3,11 @@
 --     Changes                      what is accepted has such an update
 --     changes_refuse_if, changes_cond, changes_and_then, changes_sending   along a chain of refusals
 -- Assumes nothing.
-use Rattle.std.specs.Prelude.{ℕ, Bool, cond}
+use Rattle.std.specs.Prelude.{ℕ, Bool, cond, None, Option, Some}
 use Rattle.std.proofs.Math.Bool.{true, false}
 use Rattle.message.specs.Outcome.{Outcome, accepted, refused, and_then, refuse_if}
-use Rattle.slots.specs.declared.Send.{Send}
-use Rattle.slots.specs.declared.Send.TheVariants.{Slot, NoRoom}
-use Rattle.slots.specs.declared.Store.{Store}
+use Rattle.slots.specs.declared.Sending.{Sending}
+use Rattle.slots.specs.declared.Put.{Put}
 use Rattle.slots.specs.View.{sending}
 use Rattle.change.specs.declared.Update as UpdateType
 use Rattle.change.specs.declared.Update.TheVariants.{State, Vote, Inbox}
@@ -48,8 +47,8 @@ module _ (Is : UpdateType.Update → Type 0) where
   changes_and_then (accepted a) next h = h a
   changes_and_then (refused k) next h = tt
 
-  pub changes_sending : (k : ℕ) (s : Send) (next : ℕ → Store → Outcome Change) → ((slot : ℕ) (store : Store) → Changes Is (next slot store))
+  pub changes_sending : (k : ℕ) (s : Option Sending) (next : ℕ → Option Put → Outcome Change) → ((slot : ℕ) (store : Option Put) → Changes Is (next slot store))
       → Changes Is (sending k s next)
   unfolding sending
-  changes_sending k (Slot slot store) next h = h slot store
-  changes_sending k NoRoom next h = tt
+  changes_sending k (Some s) next h = h s.slot s.put
+  changes_sending k None next h = tt

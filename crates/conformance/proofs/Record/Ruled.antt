@@ -2,7 +2,7 @@
 --     rm_rest, acceptor_rest, leader_rest     rows 8 to 14 on a sound record, by role
 --     record_ruled                            all rows
 -- Assumes nothing.
-use Rattle.std.specs.Prelude.{ℕ, ◌*◌, ◌%◌, ◌≤◌, ◌<◌, Bool, not, ◌&&◌, List, ◌⊎◌, ◌≡◌, length}
+use Rattle.std.specs.Prelude.{ℕ, ◌*◌, ◌%◌, ◌≤◌, ◌<◌, Bool, not, ◌&&◌, List, ◌≡◌, length}
 use Rattle.std.proofs.Math.Bool.{true, false}
 use Rattle.std.proofs.lemmas.Bool.{false≢true, eqb-false}
 use Rattle.std.proofs.Math.Logic.{inl, inr}

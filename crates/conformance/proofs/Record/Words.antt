@@ -1,7 +1,7 @@
 -- The proofs of Words.antt: each test passes exactly where document 01's sentence holds.
 -- Assumes nothing.
 use Prim.Native.Nat.{ℕ, zero, suc, ◌+◌, ◌*◌, ◌/◌, ◌%◌, ◌≤◌, ◌<◌, suc-le-suc, zero-le}
-use Rattle.std.specs.Prelude.{Bool, true, ◌&&◌, ◌||◌, ◌⊎◌, ◌↔◌, ◌≡◌, leb, ltb, eqb, length, get_or, take}
+use Rattle.std.specs.Prelude.{Bool, true, ◌&&◌, ◌||◌, ◌⊎◌, ◌↔◌, ◌≡◌, leb, ltb, eqb, length, get_or, take, None, Option}
 use Rattle.std.proofs.lemmas.Bool.{false≢true, lt-leb}
 use mathlib.Core.List.{List, [], ◌∷◌, Memᴰ}
 use Rattle.std.proofs.Common.{inl, inr, sym, ◌∙◌, ap, ap₂, not-suc-le-zero, le_of_suc-le-suc, suc-mul, add-zero, arith, take-add, take_all, le-leb, leb-true, eq-eqb, ne_eqb, eqb-true, lt-ltb, ltb-true}
@@ -12,9 +12,8 @@ use Rattle.message.specs.declared.Plan.{Plan}
 use Rattle.message.specs.declared.Message as Wire
 use Rattle.message.specs.declared.Message.TheVariants.{Phase1a, Phase1b, Phase2a, Phase2b, Decision}
 use Rattle.message.specs.declared.Vote.{Vote}
-use Rattle.message.specs.declared.Vote.TheVariants.{None, Cast}
 use Rattle.message.proofs.Outcome.Laws.{both}
-use Rattle.message.specs.Form.{is_value, is_vote, is_in_range}
+use Rattle.message.specs.Form.{is_value, is_vote, is_in_range, cast_vote}
 use Rattle.message.specs.Plan.{is_count, is_plan}
 use Rattle.message.proofs.PlanLaws.{plan_bounds}
 use Rattle.slots.specs.All.{all}
@@ -77,7 +76,7 @@ value_words v = (λ h. let (low, high) = (and_words (leb 1 v) (leb v 2) (leb-tru
 pub range_words : (p : Plan) (ins acc mbal bal val : ℕ)
     → ((is_in_range p (Phase1a ins bal) ≡ true) ↔ ((ins < p.rms) × (1 ≤ bal)))
     × ((is_in_range p (Phase1b ins acc mbal None) ≡ true) ↔ ((ins < p.rms) × (acc < p.acceptors)))
-    × ((is_in_range p (Phase1b ins acc mbal (Cast bal val)) ≡ true) ↔ ((ins < p.rms) × (acc < p.acceptors) × ((val ≡ 1) ⊎ (val ≡ 2))))
+    × ((is_in_range p (Phase1b ins acc mbal (cast_vote bal val)) ≡ true) ↔ ((ins < p.rms) × (acc < p.acceptors) × ((val ≡ 1) ⊎ (val ≡ 2))))
     × ((is_in_range p (Phase2a ins bal val) ≡ true) ↔ ((ins < p.rms) × ((val ≡ 1) ⊎ (val ≡ 2))))
     × ((is_in_range p (Phase2b ins acc bal val) ≡ true) ↔ ((ins < p.rms) × (acc < p.acceptors) × ((val ≡ 1) ⊎ (val ≡ 2))))
     × ((is_in_range p (Decision val) ≡ true) ↔ ((val ≡ 1) ⊎ (val ≡ 2)))
@@ -287,19 +286,19 @@ table_form p t plan whole = (
 
 pub received_words : (m : Wire.Message)
     → (is_received m ≡ true)
-    ↔ (((i a b : ℕ) × (vote : Vote) × (m ≡ Phase1b i a b vote))
+    ↔ (((i a b : ℕ) × (vote : Option Vote) × (m ≡ Phase1b i a b vote))
     ⊎ (((i a b v : ℕ) × (m ≡ Phase2b i a b v)) ⊎ ((i v : ℕ) × (m ≡ Phase2a i 0 v))))
 received_words m = (there m, back)
   where
     there : (m : Wire.Message) → is_received m ≡ true
-        → ((i a b : ℕ) × (vote : Vote) × (m ≡ Phase1b i a b vote)) ⊎ (((i a b v : ℕ) × (m ≡ Phase2b i a b v)) ⊎ ((i v : ℕ) × (m ≡ Phase2a i 0 v)))
+        → ((i a b : ℕ) × (vote : Option Vote) × (m ≡ Phase1b i a b vote)) ⊎ (((i a b v : ℕ) × (m ≡ Phase2b i a b v)) ⊎ ((i v : ℕ) × (m ≡ Phase2a i 0 v)))
     there (Phase1a ins bal) h = absurd (false≢true h)
     there (Phase1b ins acc mbal vote) h = inl (ins, acc, mbal, vote, refl)
     there (Phase2a ins bal val) h = inr (inr (ins, val, ap (λ (b : ℕ). Phase2a ins b val) (eqb-true bal 0 h)))
     there (Phase2b ins acc bal val) h = inr (inl (ins, acc, bal, val, refl))
     there (Decision val) h = absurd (false≢true h)
 
-    back : ((i a b : ℕ) × (vote : Vote) × (m ≡ Phase1b i a b vote)) ⊎ (((i a b v : ℕ) × (m ≡ Phase2b i a b v)) ⊎ ((i v : ℕ) × (m ≡ Phase2a i 0 v)))
+    back : ((i a b : ℕ) × (vote : Option Vote) × (m ≡ Phase1b i a b vote)) ⊎ (((i a b v : ℕ) × (m ≡ Phase2b i a b v)) ⊎ ((i v : ℕ) × (m ≡ Phase2a i 0 v)))
         → is_received m ≡ true
     back (inl (i, a, b, vote, is)) = rw is
     back (inr (inl (i, a, b, v, is))) = rw is

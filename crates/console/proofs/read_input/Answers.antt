@@ -10,5 +10,5 @@ loop-done-preserved g c =
     let (within, same, consumed) = c.loop-done.invariant in (
       search rules,
       search rules,
-      subst (Consumes _ _) (sym (filled_more _ _ _ _ _ within c.in-Ok.ensures.bound.0)) (Consumes-trans _ _ _ _ _ consumed c.in-Ok.ensures.bytes.0),
+      subst (Consumes _ _) (sym (filled_more _ _ _ _ _ within c.in_ok-more.ensures.bound.0)) (Consumes-trans _ _ _ _ _ consumed c.in_ok-more.ensures.bytes.0),
     )

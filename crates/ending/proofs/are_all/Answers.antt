@@ -1,25 +1,15 @@
--- `ending::are_all` meets its contract: the bytes from `i` on are the state exactly when all are. Assumes nothing.
-use Prim.Native.Nat.{◌≤◌, ◌-◌}
-use mathlib.Core.Path.{◌≡◌, refl, sym, ◌∙◌}
-use lib.ListN.{length, drop}
-use borrow.Author.Rules.{rules}
-use borrow.Author.Tests.{eq-eqb, ne_eqb}
-use Rattle.slots.proofs.All.Laws.{all_step, all_stop, all_end}
+-- `ending::are_all` meets its contract. Assumes nothing.
+use Rattle.std.proofs.Common.{rules, ◌∙◌, eqb}
+use Rattle.std.proofs.lemmas.Iterator.{YieldsList-from_slice}
+use Rattle.std.proofs.lemmas.Iterator.Search.{all_from_yields_List}
+use borrow.Author.Tests.{tests}
+use Rattle.slots.proofs.All.Laws.{list_all_all}
 use Rattle.ending.specs.Ending.{are_all}
 use Rattle.ending.proofs.are_all.Goals as goal
 
-pub loop-i-init : goal.loop-i-init
-unfolding are_all
-loop-i-init c = (search rules, refl)
-
-pub returns-then-states-i : goal.returns-then-states-i
-unfolding are_all
-returns-then-states-i c = sym (all_stop _ _ _ c.loop-i-test.true (ne_eqb _ _ c.if-states-i.true)) ∙ c.loop-i.invariant.1
-
-pub loop-i-preserved : goal.loop-i-preserved
-unfolding are_all
-loop-i-preserved c = (search rules, all_step _ _ _ c.loop-i-test.true (eq-eqb _ _ c.if-states-i.false) ∙ c.loop-i.invariant.1)
-
 pub returns : goal.returns
 unfolding are_all
-returns c = sym (all_end _ _ _ c.loop-i-test.false) ∙ c.loop-i.invariant.1
+returns c =
+    all_from_yields_List (λ s. eqb s c.args.state) _ _ _ c.all.ensures.ran (YieldsList-from_slice c.args.states.now cc)
+    (λ x b q k. search (rules, tests))
+    ∙ list_all_all _ _

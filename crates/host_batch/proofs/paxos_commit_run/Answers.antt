@@ -3,4 +3,4 @@ use Rattle.host_batch.specs.Code.Laws.{run_coded}
 use Rattle.host_batch.proofs.paxos_commit_run.Goals as goal
 
 pub returns : goal.returns
-returns c = run_coded c.run.ensures c.judged_number.ensures
+returns c = run_coded c.run.ensures c.number_of.ensures

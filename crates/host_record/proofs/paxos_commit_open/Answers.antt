@@ -4,4 +4,4 @@ use Rattle.host_record.proofs.paxos_commit_open.Goals as goal
 
 pub returns : goal.returns
 returns c =
-    opening_coded c.«open».ensures c.judged_number.ensures
+    opening_coded c.«open».ensures c.number_of.ensures

@@ -1,16 +1,16 @@
--- `inbox::higher_vote` meets its contract: the arms say which report is there, the branch which ballot is higher. Assumes nothing.
-use borrow.Author.Tests.{lt-ltb, le-ltb}
+-- `inbox::higher_vote` meets its contract: the first vote stays where the next one's ballot is not higher. Assumes nothing.
+use Rattle.std.proofs.Common.{le-ltb, lt-ltb}
 use Rattle.inbox.specs.Inbox.{higher}
 use Rattle.inbox.proofs.higher_vote.Goals as goal
 
-pub returns-then-other-bal : goal.returns-then-other-bal
+pub returns-in-Some : goal.returns-in-Some
 unfolding higher
-returns-then-other-bal c = rw (c.in-Cast.is, lt-ltb _ _ c.if-other-bal.true)
+returns-in-Some c = rw (c.in-Some.is, le-ltb _ _ c.if-next-vote.true)
 
-pub returns-in-None : goal.returns-in-None
+pub returns-in_default : goal.returns-in_default
 unfolding higher
-returns-in-None c = rw c.in-None.is
+returns-in_default c = rw (c.in-Some.is, lt-ltb _ _ c.if-next-vote.false)
 
-pub returns-else-other-bal : goal.returns-else-other-bal
+pub returns-in_default-2 : goal.returns-in_default-2
 unfolding higher
-returns-else-other-bal c = rw (c.in-Cast.is, le-ltb _ _ c.if-other-bal.false)
+returns-in_default-2 c = rw c.in_default.is

@@ -4,14 +4,13 @@
 --     gathers_start, _next, _end     before the first message, one message further, and none left
 --     reports_bad_plan, reports_plan     the answer, from what was gathered
 -- Assumes nothing.
-use Rattle.std.specs.Prelude.{ℕ, ◌<◌, ◌≤◌, Bool, ◌&&◌, ◌||◌, cond, List, [], ◌∷◌, ◌≡◌, ltb, length}
+use Rattle.std.specs.Prelude.{ℕ, ◌<◌, ◌≤◌, Bool, ◌&&◌, ◌||◌, cond, List, [], ◌∷◌, ◌≡◌, ltb, length, None, Option, Some}
 use Rattle.std.proofs.Math.Bool.{true, false, or-true, or-false, or_assoc}
 use Rattle.std.proofs.Math.Path.{refl, sym, ap}
 use Rattle.std.proofs.Common.{◌∙◌, arith, lt-ltb, le-ltb, ltb-true, ltb-false}
 use Rattle.std.proofs.Math.Dec.{eqb}
 use Rattle.message.specs.declared.Plan.{Plan}
 use Rattle.message.specs.declared.Vote.{Vote}
-use Rattle.message.specs.declared.Vote.TheVariants.{None, Cast}
 use Rattle.message.specs.declared.Message.{Message}
 use Rattle.message.specs.declared.Message.TheVariants.{Phase1a, Phase1b, Phase2a, Phase2b, Decision}
 use Rattle.message.specs.Plan.{is_plan}
@@ -37,24 +36,30 @@ report_step i b g (Phase2a ins bal val) = cond (eqb ins i && eqb bal b) (record 
 report_step i b g (Phase2b _ _ _ _) = g
 report_step i b g (Decision _) = g
 
-pub higher_none : (v : Vote) → higher v None ≡ v
+pub higher_none : (v : Option Vote) → higher v None ≡ v
 unfolding higher
 higher_none None = refl
-higher_none (Cast b v) = refl
+higher_none (Some v) = refl
 
-higher_assoc : (u v w : Vote) → higher (higher u v) w ≡ higher u (higher v w)
+higher_assoc : (u v w : Option Vote) → higher (higher u v) w ≡ higher u (higher v w)
 unfolding higher
 higher_assoc None v w = refl
-higher_assoc (Cast b x) None w = refl
-higher_assoc (Cast b x) (Cast c y) None = higher_none (cond (ltb b c) (Cast c y) (Cast b x))
-higher_assoc (Cast b x) (Cast c y) (Cast d z) = go (ltb b c) refl (ltb c d) refl
+higher_assoc (Some x) None w = refl
+higher_assoc (Some x) (Some y) None = higher_none (cond (ltb x.bal y.bal) (Some y) (Some x))
+higher_assoc (Some x) (Some y) (Some z) = go (ltb x.bal y.bal) refl (ltb y.bal z.bal) refl
   where
-    go : (s : Bool) → ltb b c ≡ s → (t : Bool) → ltb c d ≡ t
-        → higher (cond s (Cast c y) (Cast b x)) (Cast d z) ≡ higher (Cast b x) (cond t (Cast d z) (Cast c y))
-    go true s true t = let l : b < c = ltb-true b c s in let m : c < d = ltb-true c d t in rw (t, lt-ltb b d (omega arith))
+    go : (s : Bool) → ltb x.bal y.bal ≡ s → (t : Bool) → ltb y.bal z.bal ≡ t
+        → higher (cond s (Some y) (Some x)) (Some z) ≡ higher (Some x) (cond t (Some z) (Some y))
+    go true s true t =
+        let l : x.bal < y.bal = ltb-true x.bal y.bal s in
+        let m : y.bal < z.bal = ltb-true y.bal z.bal t in
+        rw (t, lt-ltb x.bal z.bal (omega arith))
     go true s false t = rw (t, s)
     go false s true t = refl
-    go false s false t = let l : c ≤ b = ltb-false b c s in let m : d ≤ c = ltb-false c d t in rw (s, le-ltb b d (omega arith))
+    go false s false t =
+        let l : y.bal ≤ x.bal = ltb-false x.bal y.bal s in
+        let m : z.bal ≤ y.bal = ltb-false y.bal z.bal t in
+        rw (s, le-ltb x.bal z.bal (omega arith))
 
 -- one message
 module _ (i b : ℕ) (g : Gathered) where
@@ -140,7 +145,7 @@ module _ (i b : ℕ) (ms : List Message) where
         (record {
           proposed = or_next _ g.proposed (is2a i b m) (any (is2a i b) rest) inv'.proposed _ (step_proposed i b g m);
           member = λ a h. or_next _ (has_bit g.mask a) (is1b i b a m) (any (is1b i b a) rest) (inv'.member a h) _ (step_bit i b g m a h);
-          vote = inv'.vote ∙ sym (higher_assoc _ _ _) ∙ ap (λ (u : Vote). higher u (highest_report i b rest)) (sym (step_vote i b g m));
+          vote = inv'.vote ∙ sym (higher_assoc _ _ _) ∙ ap (λ (u : Option Vote). higher u (highest_report i b rest)) (sym (step_vote i b g m));
         })
 
     pub gathers_end : here ≡ [] → Gathers i b ms g []

@@ -6,12 +6,11 @@
 --     used_within               the used slots are slots of the inbox
 --     ahead_next, _end          one message further, and none left
 -- Assumes nothing.
-use Rattle.std.specs.Prelude.{ℕ, ◌+◌, ◌*◌, ◌/◌, ◌≤◌, ◌<◌, List, [], ◌∷◌, ◌≡◌, length, get_or, take, drop}
+use Rattle.std.specs.Prelude.{ℕ, ◌+◌, ◌*◌, ◌/◌, ◌≤◌, ◌<◌, List, [], ◌∷◌, ◌≡◌, length, get_or, take, drop, None}
 use Rattle.std.proofs.Common.{◌∙◌, add-zero, le_trans, add-one, lit<, get_or-take, get_or-drop}
-use Rattle.message.specs.declared.Vote.TheVariants.{None, Cast}
 use Rattle.message.specs.declared.Message.{Message}
 use Rattle.message.specs.declared.Message.TheVariants.{Phase1a, Phase1b, Phase2a, Phase2b, Decision}
-use Rattle.message.specs.Form.{map1a, map1b, map1b_vote, map2a, map2b, fields_message, decode}
+use Rattle.message.specs.Form.{map1a, map1b, map1b_vote, map2a, map2b, fields_message, decode, cast_vote}
 use Rattle.message.proofs.Form.Maps.{fields_1b, fields_1b_vote, fields_2a, Other, fields_cases, decode_fields}
 use Rattle.slots.specs.Table.{slot_size}
 use Rattle.slots.proofs.Table.Laws.{get_d_slots}
@@ -31,7 +30,7 @@ module _ (t : List ℕ) (at : ℕ) where
   pub slot_cases : (P : ℕ → Message → Type 0)
       → P map1a (Phase1a (byte 1) (byte 2))
       → P map1b (Phase1b (byte 1) (byte 2) (byte 3) None)
-      → P map1b_vote (Phase1b (byte 1) (byte 2) (byte 3) (Cast (byte 4) (byte 5)))
+      → P map1b_vote (Phase1b (byte 1) (byte 2) (byte 3) (cast_vote (byte 4) (byte 5)))
       → P map2a (Phase2a (byte 1) (byte 2) (byte 3))
       → P map2b (Phase2b (byte 1) (byte 2) (byte 3) (byte 4))
       → ((k : ℕ) → Other k → P k (Decision (byte 1)))
@@ -44,7 +43,7 @@ module _ (t : List ℕ) (at : ℕ) where
   unfolding message_at
   message_1b is = rw is (fields_1b _ _ _ _ _)
 
-  pub message_1b_vote : map ≡ map1b_vote → message_at t at ≡ Phase1b (byte 1) (byte 2) (byte 3) (Cast (byte 4) (byte 5))
+  pub message_1b_vote : map ≡ map1b_vote → message_at t at ≡ Phase1b (byte 1) (byte 2) (byte 3) (cast_vote (byte 4) (byte 5))
   unfolding message_at
   message_1b_vote is = rw is (fields_1b_vote _ _ _ _ _)
 

@@ -1,7 +1,7 @@
 -- A receipt on judged tables: what the code then reads from the bytes of the inbox is what its messages say; it keeps its length, and N its bytes.
 --     received_same
 -- Assumes nothing.
-use Rattle.std.specs.Prelude.{ℕ, Bool, not, List, ◌≡◌, eqb, length}
+use Rattle.std.specs.Prelude.{ℕ, Bool, not, List, ◌≡◌, eqb, length, None, Option, Some}
 use Rattle.std.proofs.Math.Bool.{true, false}
 use Rattle.std.proofs.Math.Path.{refl, sym}
 use Rattle.std.proofs.Common.{◌∙◌}
@@ -11,10 +11,8 @@ use Rattle.message.specs.declared.Message.TheVariants.{Phase1a, Phase1b, Phase2a
 use Rattle.message.specs.Outcome.{Outcome, accepted, refused, and_then, refuse_if}
 use Rattle.message.proofs.Outcome.Laws.{accepted_not_refused}
 use Rattle.message.specs.Form.{is_in_range}
-use Rattle.slots.specs.declared.Store.{Store}
-use Rattle.slots.specs.declared.Store.TheVariants.{Keep}
-use Rattle.slots.specs.declared.Send.{Send}
-use Rattle.slots.specs.declared.Send.TheVariants.{Slot, NoRoom}
+use Rattle.slots.specs.declared.Put.{Put}
+use Rattle.slots.specs.declared.Sending.{Sending}
 use Rattle.slots.specs.Table.{messages}
 use Rattle.slots.proofs.Table.Holds.{holds_judged, table_holds, length_holds}
 use Rattle.slots.specs.Send.{message_at}
@@ -39,23 +37,23 @@ module _ (p : Plan) (isDecided : ℕ → ℕ → Bool) (inbox network e : List �
   Same r = ((view_bytes p r.table).messages ≡ messages p r.table) × (length r.table ≡ length inbox) × (r.network ≡ network)
 
   -- what `receipt_store` changes
-  abbrev kept : ℕ → Store → Outcome Change
-  kept slot store = accepted (record { table = Inbox store; network = Keep; sent = Quiet })
+  abbrev kept : ℕ → Option Put → Outcome Change
+  kept slot store = accepted (record { table = Inbox store; network = None; sent = Quiet })
 
   stored : (m : Message) → is_in_range p m ≡ true → (applied p inbox network (receipt_store box m)).answer ≡ accepted sent
       → Same (applied p inbox network (receipt_store box m))
   unfolding receipt_store sending
   stored m range = go (box.send m) refl
     where
-      go : (q : Send) → box.send m ≡ q → (applied p inbox network (sending 14 q kept)).answer ≡ accepted sent → Same (applied p inbox network (sending 14 q kept))
-      go (Slot slot store) e is =
+      go : (q : Option Sending) → box.send m ≡ q → (applied p inbox network (sending 14 q kept)).answer ≡ accepted sent → Same (applied p inbox network (sending 14 q kept))
+      go (Some q) e is =
           let before = holds_judged p inbox s.inbox_whole s.inbox_ordered in
-          let held = (send_sent p _ (messages p inbox) m range slot store e).holds inbox before in (
+          let held = (send_sent p _ (messages p inbox) m range q.slot q.put e).holds inbox before in (
             messages_holds p _ _ _ held ∙ sym (table_holds p _ _ _ held s.plan).1,
             length_holds p _ _ _ held ∙ sym (length_holds p _ _ _ before),
             refl,
           )
-      go NoRoom e is = absurd (accepted_not_refused is)
+      go None e is = absurd (accepted_not_refused is)
 
   taken : (m : Message) → is_in_range p m ≡ true → (applied p inbox network (receipt box m)).answer ≡ accepted sent → Same (applied p inbox network (receipt box m))
   unfolding receipt refuse_if

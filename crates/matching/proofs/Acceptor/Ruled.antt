@@ -150,7 +150,7 @@ module _ (p : Plan) (votes network e : List ℕ) (rm_state : ℕ → ℕ) where
     receive_ruled (Phase1a ins bal) is =
         ruled_skip 9 _ Rows12 (taken _ is refl) (phase1b p votes (view_table p network) (who_of e) ins bal)
         (phase1b_ruled ins (ltb-true _ _ (both (ltb ins p.rms) (leb 1 bal) (in_range_lem _ is)).0) ha bal is)
-    receive_ruled (Phase1b ins acc mbal vote) is = here (refl, ((_, is, refl), tt))
+    receive_ruled (Phase1b ins acc _ vote) is = here (refl, ((_, is, refl), tt))
     receive_ruled (Phase2a ins bal val) is =
         ruled_skip 9 _ Rows12 (taken _ is refl) (phase2b p votes (view_table p network) (who_of e) ins bal val)
         (phase2b_ruled ins (ltb-true _ _ (both (ltb ins p.rms) (is_value val) (in_range_lem _ is)).0) ha bal val is)

@@ -4,9 +4,9 @@
 --     entry, entry_mbal                    an entry of aState, in the bytes of Q
 --     report_range, report_is              the 1b that is sent is in range, and reports that entry's vote
 --     written_state                        aState after three bytes were written: one entry changed
---     raised, cast                         as Phase1b and Phase2b write it
+--     raised, cast                        as Phase1b and Phase2b write it
 -- Assumes nothing.
-use Rattle.std.specs.Prelude.{ℕ, suc, ◌+◌, ◌*◌, ◌≤◌, ◌<◌, Bool, ◌&&◌, ◌||◌, cond, List, ◌≡◌, ltb, leb, eqb, length, get_or, set}
+use Rattle.std.specs.Prelude.{ℕ, suc, ◌+◌, ◌*◌, ◌≤◌, ◌<◌, Bool, ◌&&◌, ◌||◌, cond, List, ◌≡◌, ltb, leb, eqb, length, get_or, set, None}
 use Rattle.std.proofs.Math.Bool.{true, false}
 use Rattle.std.proofs.lemmas.Bool.{false≢true}
 use Rattle.std.proofs.Math.Path.{refl, fun_ext}
@@ -16,9 +16,8 @@ use native.Mathlib.Omega.{arith}
 use Rattle.std.proofs.lemmas.List.{set-get_or}
 use borrow.Author.Tests.{lt-ltb, ltb-true, ltb-false, eq-eqb, ne_eqb, eqb-true, eqb-false, le-leb, leb-true}
 use Rattle.message.specs.declared.Plan.{Plan}
-use Rattle.message.specs.declared.Vote.TheVariants.{None, Cast}
 use Rattle.message.proofs.Outcome.Laws.{both}
-use Rattle.message.specs.Form.{is_value, is_vote, is_in_range}
+use Rattle.message.specs.Form.{is_value, is_vote, is_in_range, cast_vote}
 use Rattle.paxos_commit.specs.PaxosCommit as Source
 use Rattle.paxos_commit.specs.PaxosCommit.{Val, AState, initial, except₂}
 use Rattle.votes.specs.Votes.{is_vote_state, are_votes}
@@ -93,7 +92,7 @@ vote_range : (bal val : ℕ) → is_vote_state bal val ≡ true → is_vote (vot
 unfolding is_vote_state vote_of is_vote is_value
 vote_range bal val h = go (eqb val 0) refl
   where
-    go : (t : Bool) → eqb val 0 ≡ t → is_vote (cond t None (Cast bal val)) ≡ true
+    go : (t : Bool) → eqb val 0 ≡ t → is_vote (cond t None (cast_vote bal val)) ≡ true
     go true e = refl
     go false e =
         let b = both (leb val 2) (leb 1 val || eqb bal 0) h in
@@ -122,7 +121,7 @@ module _ (mbal bal val : ℕ) where
   unfolding vote_of
   vote_bal = go (eqb val 0)
     where
-      go : (t : Bool) → bal_of (cond t None (Cast bal val)) ≡ (entry_of t mbal bal val).bal
+      go : (t : Bool) → bal_of (cond t None (cast_vote bal val)) ≡ (entry_of t mbal bal val).bal
       go true = refl
       go false = refl
 
@@ -130,7 +129,7 @@ module _ (mbal bal val : ℕ) where
   unfolding vote_of
   vote_val = go (eqb val 0)
     where
-      go : (t : Bool) → vote_val_of (cond t None (Cast bal val)) ≡ (entry_of t mbal bal val).val
+      go : (t : Bool) → vote_val_of (cond t None (cast_vote bal val)) ≡ (entry_of t mbal bal val).val
       go true = refl
       go false = refl
 

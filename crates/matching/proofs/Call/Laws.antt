@@ -9,7 +9,7 @@
 --     tables_kept                               both tables of a refused call
 --     applied_accepted, and_then_accepted, sending_accepted    what an accepted call says of its parts
 -- Assumes nothing.
-use Rattle.std.specs.Prelude.{ℕ, zero, suc, ◌<◌, ◌≤◌, Bool, not, ◌⊎◌, ◌↔◌, length}
+use Rattle.std.specs.Prelude.{ℕ, zero, suc, ◌<◌, ◌≤◌, Bool, not, ◌⊎◌, ◌↔◌, length, None, Option, Some}
 use Rattle.std.proofs.Common.{zero-le, suc-le-suc, sym, ◌∙◌, ap, not-suc-le-zero, le_of_suc-le-suc}
 use Rattle.std.proofs.Math.Bool.{true, false}
 use Rattle.std.proofs.lemmas.Bool.{false≢true, not-false}
@@ -27,14 +27,12 @@ use Rattle.message.specs.Form.{is_in_range}
 use Rattle.message.specs.Rows.{Rows, row, here}
 use Rattle.message.proofs.Rows.Laws.{Ruled, ruled_skip}
 use Rattle.slots.specs.declared.Place.{Place}
-use Rattle.slots.specs.declared.Store.{Store}
-use Rattle.slots.specs.declared.Store.TheVariants.{Keep, Put}
-use Rattle.slots.specs.declared.Send as SendType
-use Rattle.slots.specs.declared.Send.TheVariants.{Slot, NoRoom}
+use Rattle.slots.specs.declared.Put.{Put}
+use Rattle.slots.specs.declared.Sending.{Sending}
 use Rattle.slots.specs.Table.{is_table_length, is_table, messages}
 use Rattle.slots.proofs.Table.Holds.{all_in_range, Holds, holds_judged, table_holds, length_holds}
 use Rattle.slots.specs.Send.{place_in, message_at}
-use Rattle.slots.specs.View.{view_table, send_of, store_bytes, store_messages, sending}
+use Rattle.slots.specs.View.{view_table, send_of, store_bytes, store_messages, sending, put_at, sends}
 use Rattle.slots.proofs.View.Laws.{PlaceCase, at, free, full, place_case, Sent, send_sent}
 use Rattle.change.specs.declared.Change.{Change}
 use Rattle.change.specs.declared.Sent as SentType
@@ -119,7 +117,7 @@ pub record Stored (p : Plan) (t : List ℕ) (m : Message) (slot : ℕ) (t' : Lis
   pub joins : (x : Source.Message) → set_of (messages p t') x ↔ Joined (messages p t) m x
 
 module _ (p : Plan) (t : List ℕ) (plan : is_plan p ≡ true) (whole : is_table_length (length t) ≡ true) (ordered : is_table p t ≡ true) (m : Message) where
-  pub stored : is_in_range p m ≡ true → (slot : ℕ) (store : Store) → (view_table p t).send m ≡ Slot slot store → Stored p t m slot (store_bytes p store t)
+  pub stored : is_in_range p m ≡ true → (slot : ℕ) (store : Option Put) → (view_table p t).send m ≡ sends slot store → Stored p t m slot (store_bytes p store t)
   stored range slot store e = go sent.cases
     where
       sent : Sent p (room_of t) (messages p t) m slot store
@@ -143,36 +141,36 @@ module _ (p : Plan) (t : List ℕ) (plan : is_plan p ≡ true) (whole : is_table
             joins = rw held joins;
           }
 
-      go : ((store ≡ Keep) × (message_at (messages p t) slot ≡ accepted m)) ⊎ ((store ≡ Put (length (messages p t)) m) × ((k : ℕ) → message_at (messages p t) k ≡ accepted m → ⊥))
+      go : ((store ≡ None) × (message_at (messages p t) slot ≡ accepted m)) ⊎ ((store ≡ put_at (length (messages p t)) m) × ((k : ℕ) → message_at (messages p t) k ≡ accepted m → ⊥))
           → Stored p t m slot (store_bytes p store t)
       go (inl (is, there)) =
           let h = member_at (messages p t) slot m there in
-          common (inl (h, ap (λ (s : Store). store_bytes p s t) is)) (rw is (λ x. set_same (messages p t) m x h))
+          common (inl (h, ap (λ (s : Option Put). store_bytes p s t) is)) (rw is (λ x. set_same (messages p t) m x h))
       go (inr (is, absent)) =
           common
           (inr (
             λ h. let r = at_member (messages p t) m h in absent r.0 r.1,
-            held ∙ ap (λ (s : Store). store_messages s (messages p t)) is,
+            held ∙ ap (λ (s : Option Put). store_messages s (messages p t)) is,
             rw held holds.form,
           ))
           (rw is (λ x. set_append (messages p t) m x))
 
 -- a store is accepted exactly where there is room
 module _ (p : Plan) (t : List ℕ) (m : Message) where
-  pub has_room : (slot : ℕ) (store : Store) → (view_table p t).send m ≡ Slot slot store → HasRoom p t m
+  pub has_room : (slot : ℕ) (store : Option Put) → (view_table p t).send m ≡ sends slot store → HasRoom p t m
   unfolding place_in
   has_room slot store e = go _ (place_case p 0 (room_of t) (messages p t) m) e
     where
-      go : (q : Place) → PlaceCase 0 (room_of t) (messages p t) m q → send_of q m ≡ Slot slot store → HasRoom p t m
+      go : (q : Place) → PlaceCase 0 (room_of t) (messages p t) m q → send_of q m ≡ sends slot store → HasRoom p t m
       go q (at i k n s b) e = inl (member_at (messages p t) k m s)
       go q (free i n s a) e = inr (omega arith)
       go q (full s a) e = absurd (let z : ◌≡◌ {A = ℕ} 0 1 = cc in omega arith)
 
-  pub no_room : (view_table p t).send m ≡ NoRoom → HasRoom p t m → ⊥
+  pub no_room : (view_table p t).send m ≡ None → HasRoom p t m → ⊥
   unfolding place_in
   no_room e = go _ (place_case p 0 (room_of t) (messages p t) m) e
     where
-      go : (q : Place) → PlaceCase 0 (room_of t) (messages p t) m q → send_of q m ≡ NoRoom → HasRoom p t m → ⊥
+      go : (q : Place) → PlaceCase 0 (room_of t) (messages p t) m q → send_of q m ≡ None → HasRoom p t m → ⊥
       go q (at i k n s b) e h = let z : ◌≡◌ {A = ℕ} 0 1 = cc in omega arith
       go q (free i n s a) e h = let z : ◌≡◌ {A = ℕ} 0 1 = cc in omega arith
       go q (full s a) e (inl h) = let r = at_member (messages p t) m h in a r.0 r.1
@@ -216,16 +214,16 @@ module _ {A : Type 0} where
       by (inr (m, e)) = rw e (ruled_skip 8 _ rows (λ h. accepted_not_refused (sym (past_unused ms k (back h.0)) ∙ e)) (next m) (go m e))
 
   -- rows 13 and 14
-  pub ruled_sending : (number : ℕ) (p : Plan) (table : List ℕ) (m : Message) (t : Type 0) (rows : Rows) (go : ℕ → Store → Outcome A)
+  pub ruled_sending : (number : ℕ) (p : Plan) (table : List ℕ) (m : Message) (t : Type 0) (rows : Rows) (go : ℕ → Option Put → Outcome A)
       → ((HasRoom p table m → ⊥) → t) → (t → HasRoom p table m → ⊥)
-      → ((slot : ℕ) (store : Store) → (view_table p table).send m ≡ Slot slot store → Ruled (go slot store) rows)
+      → ((slot : ℕ) (store : Option Put) → (view_table p table).send m ≡ sends slot store → Ruled (go slot store) rows)
       → Ruled (sending number ((view_table p table).send m) go) (row number t rows)
   unfolding Ruled sending
   ruled_sending number p table m t rows go holds back next = by ((view_table p table).send m) refl
     where
-      by : (send : SendType.Send) → (view_table p table).send m ≡ send → Ruled (sending number send go) (row number t rows)
-      by NoRoom e = here (refl, (holds (no_room p table m e), tt))
-      by (Slot slot store) e = ruled_skip number _ rows (λ h. back h.0 (has_room p table m slot store e)) (go slot store) (next slot store e)
+      by : (send : Option Sending) → (view_table p table).send m ≡ send → Ruled (sending number send go) (row number t rows)
+      by None e = here (refl, (holds (no_room p table m e), tt))
+      by (Some s) e = ruled_skip number _ rows (λ h. back h.0 (has_room p table m s.slot s.put e)) (go s.slot s.put) (next s.slot s.put e)
 
 pub ruled_applied : (p : Plan) (table network : List ℕ) (rows : Rows) (o : Outcome Change) → Ruled o rows → Ruled (applied p table network o).answer rows
 unfolding Ruled
@@ -244,11 +242,11 @@ unfolding and_then
 and_then_accepted (accepted a) next b e = (a, refl, e)
 and_then_accepted (refused k) next b e = absurd (accepted_not_refused e)
 
-pub sending_accepted : {A : Type 0} (number : ℕ) (send : SendType.Send) (go : ℕ → Store → Outcome A) (a : A) → sending number send go ≡ accepted a
-    → (slot : ℕ) × (store : Store) × (send ≡ Slot slot store) × (go slot store ≡ accepted a)
+pub sending_accepted : {A : Type 0} (number : ℕ) (send : Option Sending) (go : ℕ → Option Put → Outcome A) (a : A) → sending number send go ≡ accepted a
+    → (slot : ℕ) × (store : Option Put) × (send ≡ sends slot store) × (go slot store ≡ accepted a)
 unfolding sending
-sending_accepted number (Slot slot store) go a e = (slot, store, refl, e)
-sending_accepted number NoRoom go a e = absurd (accepted_not_refused e)
+sending_accepted number (Some s) go a e = (s.slot, s.put, refl, e)
+sending_accepted number None go a e = absurd (accepted_not_refused e)
 
 each_in_range : (p : Plan) (ms : List Message) → all_in_range p ms ≡ true → (m : Message) → Memᴰ m ms → is_in_range p m ≡ true
 unfolding all_in_range

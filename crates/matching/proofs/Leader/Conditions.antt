@@ -8,7 +8,7 @@
 --     decided_Decided, Decided-decided Decided(i, v)
 -- Assumes nothing.
 use Prim.Native.Nat.{ℕ, zero, suc, ◌+◌, ◌≤◌, ◌<◌, zero-le, suc-le-suc}
-use Rattle.std.specs.Prelude.{Bool, false, ◌&&◌, cond, ◌≡◌, refl, ltb, leb, eqb}
+use Rattle.std.specs.Prelude.{Bool, false, ◌&&◌, cond, ◌≡◌, refl, ltb, leb, eqb, Option}
 use Rattle.std.proofs.Math.Bool.{true}
 use Rattle.std.proofs.lemmas.Bool.{false≢true}
 use mathlib.Core.List.{List, [], ◌∷◌, Memᴰ}
@@ -91,7 +91,7 @@ is1b_of (Phase2a ins bal val) i b a c v e = apart _ _ e (λ z. omega arith)
 is1b_of (Phase2b ins acc bal val) i b a c v e = apart _ _ e (λ z. omega arith)
 is1b_of (Decision val) i b a c v e = decision_apart val _ e (λ z. omega arith)
 
-pub of_is1b : (m : Message) (i b a : ℕ) → is1b i b a m ≡ true → (vote : Vote) × (m ≡ Phase1b i a b vote)
+pub of_is1b : (m : Message) (i b a : ℕ) → is1b i b a m ≡ true → (vote : Option Vote) × (m ≡ Phase1b i a b vote)
 unfolding is1b
 of_is1b (Phase1a ins bal) i b a h = absurd (false≢true h)
 of_is1b (Phase1b ins acc mbal vote) i b a h =
@@ -156,7 +156,7 @@ module _ (ms : List Message) (i b : ℕ) where
   pub seen_phase2a : (v : Source.Val) → set_of ms (Source.phase2a i b v) → any (is2a i b) ms ≡ true
   seen_phase2a v s = member_any (is2a i b) ms s.0 s.1 (is2a_of s.0 i b v s.2)
 
-  pub reported_seen : (a : ℕ) → any (is1b i b a) ms ≡ true → (vote : Vote) × set_of ms (Source.phase1b i b (bal_of vote) (vote_val_of vote) a)
+  pub reported_seen : (a : ℕ) → any (is1b i b a) ms ≡ true → (vote : Option Vote) × set_of ms (Source.phase1b i b (bal_of vote) (vote_val_of vote) a)
   reported_seen a h =
       let m = any_member (is1b i b a) ms h in let v = of_is1b m.0 i b a m.2 in (v.0, (m.0, m.1, ap message_of v.1))
 

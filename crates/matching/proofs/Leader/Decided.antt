@@ -6,9 +6,8 @@ use Rattle.std.proofs.Common.{arith, eqb-true, leb-true}
 use Rattle.std.proofs.lemmas.Bool.{eqb-false}
 use Rattle.message.proofs.Outcome.Laws.{both}
 use Rattle.message.specs.Form.{is_value}
-use Rattle.paxos_commit.specs.PaxosCommit.{Val, prepared, aborted, none}
-use Rattle.matching.specs.Reading.{val_of}
-use Rattle.matching.specs.Leader.Decided.{Reflects, value_number, DecidedBy}
+use Rattle.paxos_commit.specs.PaxosCommit.{prepared, aborted}
+use Rattle.matching.specs.Leader.Decided.{Reflects, DecidedBy}
 
 pub reflects_by : (isDecided : ℕ → ℕ → Bool) → Reflects isDecided (DecidedBy isDecided)
 unfolding is_value

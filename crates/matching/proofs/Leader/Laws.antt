@@ -5,19 +5,18 @@
 --     owner_one, owner_none             the owner of a ballot
 --     keeps, stays_sound    a refused step changes nothing; well-formed tables stay so
 -- Assumes nothing.
-use Rattle.std.specs.Prelude.{ℕ, ◌≤◌, ◌<◌, Bool, true, false, List, ◌∷◌, ◌++◌, ◌≡◌, eqb, length}
+use Rattle.std.specs.Prelude.{ℕ, ◌≤◌, ◌<◌, Bool, true, false, List, ◌∷◌, ◌++◌, ◌≡◌, eqb, length, Option}
 use Rattle.std.proofs.Math.Path.{refl, ap}
 use Rattle.std.proofs.Common.{sym, ◌∙◌, subst, arith}
 use borrow.Author.Tests.{lt-ltb, le-leb, eqb-true, eqb-false, not-false}
 use Rattle.message.specs.declared.Plan.{Plan}
 use Rattle.message.specs.declared.Vote.{Vote}
-use Rattle.message.specs.declared.Vote.TheVariants.{Cast}
 use Rattle.message.specs.declared.Message as Wire
 use Rattle.message.specs.declared.Message.TheVariants.{Phase1a, Phase1b, Phase2a, Decision}
 use Rattle.message.specs.Outcome.{Outcome, accepted, refused, and_then}
 use Rattle.message.proofs.Outcome.Laws.{accepted_inj, refuse_if_accepted}
 use Rattle.message.specs.Plan.{is_plan}
-use Rattle.message.specs.Form.{is_value, is_in_range}
+use Rattle.message.specs.Form.{is_value, is_in_range, cast_vote}
 use Rattle.slots.specs.Table.{messages}
 use Rattle.slots.proofs.Table.Holds.{all_in_range, holds_judged}
 use Rattle.slots.specs.Send.{message_at}
@@ -195,17 +194,17 @@ module _ (p : Plan) (isDecided : ℕ → ℕ → Bool) (inbox network e : List �
 
 -- the proposed 2a: of several highest reports the first, and 2 where none reports a vote
 module _ (p : Plan) (inbox e : List ℕ) where
-  pub proposal_first : (xs ys : List Wire.Message) (a c v : ℕ) → messages p inbox ≡ xs ++ (Phase1b (high_of e) a (low_of e) (Cast c v) ∷ ys)
+  pub proposal_first : (xs ys : List Wire.Message) (a c v : ℕ) → messages p inbox ≡ xs ++ (Phase1b (high_of e) a (low_of e) (cast_vote c v) ∷ ys)
       → ((d : ℕ) → Reports xs (high_of e) (low_of e) d → d < c) → ((d : ℕ) → Reports ys (high_of e) (low_of e) d → d ≤ c)
       → proposed p inbox e ≡ Phase2a (high_of e) (low_of e) v
   unfolding proposal
   proposal_first xs ys a c v is h k =
-      ap (λ (w : Vote). Phase2a (high_of e) (low_of e) (proposal w))
+      ap (λ (w : Option Vote). Phase2a (high_of e) (low_of e) (proposal w))
       (ap (highest_report (high_of e) (low_of e)) is ∙ highest_first (high_of e) (low_of e) xs ys a c v h k)
 
   pub proposal_none : ((d : ℕ) → Reports (messages p inbox) (high_of e) (low_of e) d → ⊥) → proposed p inbox e ≡ Phase2a (high_of e) (low_of e) 2
   unfolding proposal
-  proposal_none h = ap (λ (w : Vote). Phase2a (high_of e) (low_of e) (proposal w)) (highest_none (high_of e) (low_of e) (messages p inbox) h)
+  proposal_none h = ap (λ (w : Option Vote). Phase2a (high_of e) (low_of e) (proposal w)) (highest_none (high_of e) (low_of e) (messages p inbox) h)
 
 -- a ballot above 0 has one owner, ballot 0 none
 module _ (p : Plan) where

@@ -3,7 +3,7 @@
 --     SoundAfter, Sending   both tables are sound after it, of the same lengths; a message was sent
 --     store_acts, only_acts, both_acts     a message stored in the inbox, in N, in both
 -- By kind in Laws.antt. Assumes nothing.
-use Rattle.std.specs.Prelude.{ℕ, ◌≤◌, Bool, true, List, ◌≡◌, length}
+use Rattle.std.specs.Prelude.{ℕ, ◌≤◌, Bool, true, List, ◌≡◌, length, Option}
 use Rattle.std.proofs.Math.Path.{refl, subst}
 use Rattle.std.proofs.Common.{sym, ◌∙◌, ap, ltb-false}
 use Rattle.std.proofs.lemmas.Bool.{not-false}
@@ -13,11 +13,10 @@ use Rattle.message.specs.declared.Message.TheVariants.{Phase1a, Phase1b, Phase2a
 use Rattle.message.specs.Outcome.{Outcome, accepted, refused}
 use Rattle.message.proofs.Outcome.Laws.{accepted_not_refused, refuse_if_accepted}
 use Rattle.message.specs.Form.{is_in_range}
-use Rattle.slots.specs.declared.Store.{Store}
-use Rattle.slots.specs.declared.Send.TheVariants as SendType
+use Rattle.slots.specs.declared.Put.{Put}
 use Rattle.slots.specs.Table.{is_table, messages}
 use Rattle.slots.proofs.Table.Holds.{all_in_range, holds_judged}
-use Rattle.slots.specs.View.{View, view_table, store_bytes}
+use Rattle.slots.specs.View.{View, view_table, store_bytes, sends}
 use Rattle.change.specs.declared.Change.{Change}
 use Rattle.change.specs.declared.Sent.TheVariants.{Slot, Quiet}
 use Rattle.change.specs.Change.{Step, applied}
@@ -112,12 +111,12 @@ module _ (p : Plan) (inbox network e : List ℕ) (rm_state : ℕ → ℕ) (a_sta
     )
 
     module _ (m : Wire.Message) (range : is_in_range p m ≡ true) where
-      stored_network : (slot : ℕ) (store : Store) → (view_table p network).send m ≡ SendType.Slot slot store
+      stored_network : (slot : ℕ) (store : Option Put) → (view_table p network).send m ≡ sends slot store
           → Stored p network m slot (store_bytes p store network)
       stored_network slot store send =
           stored p network t.tables.plan t.tables.network_whole t.tables.network_ordered m range slot store send
 
-      stored_inbox : (slot : ℕ) (store : Store) → (view_table p inbox).send m ≡ SendType.Slot slot store
+      stored_inbox : (slot : ℕ) (store : Option Put) → (view_table p inbox).send m ≡ sends slot store
           → Stored p inbox m slot (store_bytes p store inbox)
       stored_inbox slot store send =
           stored p inbox t.tables.plan t.tables.inbox_whole t.tables.inbox_ordered m range slot store send

@@ -2,10 +2,7 @@
 --     Reflects                 the test passes exactly where the claim holds
 --     value_number, DecidedBy  the claim that a test itself makes
 -- Assumes nothing.
-use Rattle.std.specs.Prelude.{ℕ, Bool, true, false, cond, ◌↔◌, ◌≡◌, refl, leb, eqb}
-use Rattle.std.proofs.Common.{arith, eqb-true, leb-true}
-use Rattle.std.proofs.lemmas.Bool.{eqb-false}
-use Rattle.message.proofs.Outcome.Laws.{both}
+use Rattle.std.specs.Prelude.{ℕ, Bool, true, ◌↔◌, ◌≡◌}
 use Rattle.message.specs.Form.{is_value}
 use Rattle.paxos_commit.specs.PaxosCommit.{Val, prepared, aborted, none}
 use Rattle.matching.specs.Reading.{val_of}

@@ -9,11 +9,12 @@
 --     map_length_bound, _least    no message is longer than a slot, and none shorter than four bytes
 --     decode_bytes_of, decode_slot_of      decoding the form of a message, or its slot, gives the message
 --     bytes_of_decode       bytes with a known map, its length and the order number are the form of what they decode to
+--     high_byte             the higher byte of an order number
 --     has_order_bytes, order_compared    what is compared of the order number, byte by byte and as one number
 --     has_order_bytes_of, _other, bytes_of_order  a form has its plan's order number and no other; no form is of two orders
 -- Assumes nothing.
-use Rattle.std.specs.Prelude.{ℕ, zero, suc, ◌+◌, ◌*◌, ◌-◌, ◌/◌, ◌%◌, ◌≤◌, ◌<◌, Bool, true, false, ◌&&◌, List, [], ◌∷◌, ◌++◌, ◌≡◌, refl, eqb, length, get_or, take, drop, replicate}
-use Rattle.std.proofs.Common.{zero-le, sym, ◌∙◌, ap, ap₂, subst, arith, lit≤, length-append, drop_of_length-le, take-append-drop, drop-cons, eq-eqb, ne_eqb, eqb-true}
+use Rattle.std.specs.Prelude.{None, Some, ℕ, zero, suc, ◌+◌, ◌*◌, ◌-◌, ◌/◌, ◌%◌, ◌≤◌, ◌<◌, Bool, true, false, ◌&&◌, List, [], ◌∷◌, ◌++◌, ◌≡◌, refl, eqb, length, get_or, take, drop, replicate}
+use Rattle.std.proofs.Common.{zero-le, sym, ◌∙◌, ap, ap₂, subst, arith, mod-eq_of_lt, lit≤, length-append, drop_of_length-le, take-append-drop, drop-cons, eq-eqb, ne_eqb, eqb-true}
 use Rattle.std.proofs.lemmas.Bool.{false≢true, eqb-false}
 use Rattle.std.proofs.Math.Decide.{ℕ_discrete}
 use Rattle.std.specs.Int.Count.{ones}
@@ -22,24 +23,23 @@ use Rattle.std.proofs.Math.ListN.{get_or-append}
 use Rattle.std.proofs.Math.Seq.{take-append_seam, drop-append_seam}
 use Rattle.message.proofs.Outcome.Laws.{both}
 use Rattle.message.specs.declared.Plan.{Plan}
-use Rattle.message.specs.declared.Vote.TheVariants.{None, Cast}
 use Rattle.message.specs.declared.Message.{Message}
 use Rattle.message.specs.declared.Message.TheVariants.{Phase1a, Phase1b, Phase2a, Phase2b, Decision}
-use Rattle.message.specs.Form.{map1a, map1b, map1b_vote, map2a, map2b, map_decision}
+use Rattle.message.specs.Form.{cast_vote, map1a, map1b, map1b_vote, map2a, map2b, map_decision}
 use Rattle.message.specs.Form.{bytes_of, bytes_of1b, message_length, slot_size, slot_of, is_known, map_length, fields_message, decode, has_order}
 
 -- what is computed for each kind of message, at both kinds of vote
 pub message_cases : (P : Message → Type 0)
     → ((ins bal : ℕ) → P (Phase1a ins bal))
     → ((ins acc mbal : ℕ) → P (Phase1b ins acc mbal None))
-    → ((ins acc mbal bal val : ℕ) → P (Phase1b ins acc mbal (Cast bal val)))
+    → ((ins acc mbal bal val : ℕ) → P (Phase1b ins acc mbal (cast_vote bal val)))
     → ((ins bal val : ℕ) → P (Phase2a ins bal val))
     → ((ins acc bal val : ℕ) → P (Phase2b ins acc bal val))
     → ((val : ℕ) → P (Decision val))
     → (m : Message) → P m
 message_cases P a n c b d e (Phase1a ins bal) = a ins bal
 message_cases P a n c b d e (Phase1b ins acc mbal vote) =
-    elim vote as (λ v. P (Phase1b ins acc mbal v)) [ None ↦ n ins acc mbal | Cast bal val ↦ c ins acc mbal bal val ]
+    elim vote as (λ v. P (Phase1b ins acc mbal v)) [ None ↦ n ins acc mbal | Some w ↦ c ins acc mbal w.bal w.val ]
 message_cases P a n c b d e (Phase2a ins bal val) = b ins bal val
 message_cases P a n c b d e (Phase2b ins acc bal val) = d ins acc bal val
 message_cases P a n c b d e (Decision val) = e val
@@ -244,6 +244,10 @@ bytes_of_decode p bytes known n order =
     ends : (k : ℕ) → (eqb (get_or bytes k 0) (p.order / 256) && eqb (get_or bytes (suc k) 0) (p.order % 256)) ≡ true
         → (get_or bytes k 0 ≡ p.order / 256) × (get_or bytes (suc k) 0 ≡ p.order % 256)
     ends k o = let b = both (eqb (get_or bytes k 0) (p.order / 256)) _ o in (eqb-true _ _ b.0, eqb-true _ _ b.1)
+
+-- the higher byte, as the library's `to_be_bytes` has it
+pub high_byte : (order : ℕ) → order < 65536 → order / 256 % 256 ≡ order / 256
+high_byte order h = mod-eq_of_lt (omega arith)
 
 -- what is compared: each byte with its half of the number; or both as one number
 pub has_order_bytes : (p : Plan) (len : ℕ) (bytes : List ℕ)

@@ -9,17 +9,16 @@
 --     slot_1a ..              a message's slot, byte by byte
 --     is_value_bounds         what a value is
 -- Assumes nothing.
-use Rattle.std.specs.Prelude.{ℕ, ◌/◌, ◌%◌, true, ◌&&◌, List, [], ◌∷◌, ◌≡◌, ltb, leb, get_or}
+use Rattle.std.specs.Prelude.{None, ℕ, ◌/◌, ◌%◌, true, ◌&&◌, List, [], ◌∷◌, ◌≡◌, ltb, leb, get_or}
 use Rattle.std.proofs.Math.Path.{refl}
 use Rattle.std.proofs.Common.{◌∙◌, ap}
 use Rattle.std.proofs.Math.Decide.{ℕ_discrete}
 use Rattle.std.specs.Int.Count.{ones}
 use borrow.Author.Tests.{ne_eqb}
 use Rattle.message.specs.declared.Plan.{Plan}
-use Rattle.message.specs.declared.Vote.TheVariants.{None, Cast}
 use Rattle.message.specs.declared.Message.{Message}
 use Rattle.message.specs.declared.Message.TheVariants.{Phase1a, Phase1b, Phase2a, Phase2b, Decision}
-use Rattle.message.specs.Form.{map1a, map1b, map1b_vote, map2a, map2b, map_decision}
+use Rattle.message.specs.Form.{cast_vote, map1a, map1b, map1b_vote, map2a, map2b, map_decision}
 use Rattle.message.specs.Form.{is_value, is_vote, is_in_range, bytes_of1b, bytes_of, message_length, slot_of, is_known, map_length, fields_message, decode}
 
 pub length_1a : map_length map1a ≡ 5
@@ -63,7 +62,7 @@ module _ (b1 b2 b3 b4 b5 : ℕ) where
   unfolding fields_message
   fields_1b = refl
 
-  pub fields_1b_vote : fields_message map1b_vote b1 b2 b3 b4 b5 ≡ Phase1b b1 b2 b3 (Cast b4 b5)
+  pub fields_1b_vote : fields_message map1b_vote b1 b2 b3 b4 b5 ≡ Phase1b b1 b2 b3 (cast_vote b4 b5)
   unfolding fields_message
   fields_1b_vote = refl
 
@@ -93,7 +92,7 @@ module _ (b1 b2 b3 b4 b5 : ℕ) where
   pub fields_cases : (P : ℕ → Message → Type 0)
       → P map1a (Phase1a b1 b2)
       → P map1b (Phase1b b1 b2 b3 None)
-      → P map1b_vote (Phase1b b1 b2 b3 (Cast b4 b5))
+      → P map1b_vote (Phase1b b1 b2 b3 (cast_vote b4 b5))
       → P map2a (Phase2a b1 b2 b3)
       → P map2b (Phase2b b1 b2 b3 b4)
       → ((map : ℕ) → Other map → P map (Decision b1))
@@ -129,7 +128,7 @@ module _ (p : Plan) (ins acc mbal bal val : ℕ) where
   unfolding is_in_range is_vote
   range_1b = refl
 
-  pub range_1b_vote : is_in_range p (Phase1b ins acc mbal (Cast bal val)) ≡ (ltb ins p.rms && ltb acc p.acceptors && is_value val)
+  pub range_1b_vote : is_in_range p (Phase1b ins acc mbal (cast_vote bal val)) ≡ (ltb ins p.rms && ltb acc p.acceptors && is_value val)
   unfolding is_in_range is_vote
   range_1b_vote = refl
 
@@ -181,7 +180,7 @@ module _ (p : Plan) (ins acc mbal bal val : ℕ) where
   unfolding slot_of message_length bytes_of bytes_of1b
   slot_1b = refl
 
-  pub slot_1b_vote : slot_of p (Phase1b ins acc mbal (Cast bal val)) ≡ map1b_vote ∷ ins ∷ acc ∷ mbal ∷ bal ∷ val ∷ (p.order / 256) ∷ (p.order % 256) ∷ []
+  pub slot_1b_vote : slot_of p (Phase1b ins acc mbal (cast_vote bal val)) ≡ map1b_vote ∷ ins ∷ acc ∷ mbal ∷ bal ∷ val ∷ (p.order / 256) ∷ (p.order % 256) ∷ []
   unfolding slot_of message_length bytes_of bytes_of1b
   slot_1b_vote = refl
 

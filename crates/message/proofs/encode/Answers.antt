@@ -1,27 +1,21 @@
 -- `message::encode` meets its contract: at each kind of message the bytes are computed. Assumes nothing.
+use Rattle.std.proofs.Common.{arith}
 use Rattle.message.specs.Form.{slot_of, bytes_of, message_length}
-use borrow.Author.Rules.{rules}
+use Rattle.message.proofs.Form.Laws.{high_byte}
 use Rattle.message.proofs.encode.Goals as goal
 
 pub returns-in-Phase1a : goal.returns-in-Phase1a
 unfolding slot_of bytes_of message_length
-returns-in-Phase1a c =
-    rw (c.in-Phase1a.is, c.order_high-high.ensures, c.order_low-low.ensures)
-
-pub returns-in-Phase1b : goal.returns-in-Phase1b
-returns-in-Phase1b c = rw c.in-Phase1b.is c.encode_1b.ensures
+returns-in-Phase1a c = rw (c.in-Phase1a.is, c.to_be_bytes.ensures, high_byte c.args.plan.order (omega arith))
 
 pub returns-in-Phase2a : goal.returns-in-Phase2a
 unfolding slot_of bytes_of message_length
-returns-in-Phase2a c =
-    rw (c.in-Phase2a.is, c.order_high-high.ensures, c.order_low-low.ensures)
+returns-in-Phase2a c = rw (c.in-Phase2a.is, c.to_be_bytes.ensures, high_byte c.args.plan.order (omega arith))
 
 pub returns-in-Phase2b : goal.returns-in-Phase2b
 unfolding slot_of bytes_of message_length
-returns-in-Phase2b c =
-    rw (c.in-Phase2b.is, c.order_high-high.ensures, c.order_low-low.ensures)
+returns-in-Phase2b c = rw (c.in-Phase2b.is, c.to_be_bytes.ensures, high_byte c.args.plan.order (omega arith))
 
 pub returns-in-Decision : goal.returns-in-Decision
 unfolding slot_of bytes_of message_length
-returns-in-Decision c =
-    rw (c.in-Decision.is, c.order_high-high.ensures, c.order_low-low.ensures)
+returns-in-Decision c = rw (c.in-Decision.is, c.to_be_bytes.ensures, high_byte c.args.plan.order (omega arith))

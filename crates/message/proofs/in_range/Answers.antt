@@ -1,6 +1,5 @@
 -- `message::in_range` meets its contract: each arm says which message it is, and joins the tests of its fields. Assumes nothing.
 use Rattle.message.specs.Form.{is_in_range}
-use borrow.Author.Rules.{rules}
 use Rattle.message.proofs.in_range.Goals as goal
 
 pub returns-in-Phase1a : goal.returns-in-Phase1a

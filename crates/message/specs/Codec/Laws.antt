@@ -5,17 +5,12 @@
 --     Begins, shape_length, _range, _none, shape_unknown     their number where the map is known: another length, a field out of range, or 0; and where it is not
 --     write_message_plan, _range, _accepted
 -- Assumes nothing.
-use Rattle.std.specs.Prelude.{ℕ, ◌≤◌, ◌<◌, Bool, true, false, not, cond, List, [], ◌≡◌, refl, eqb, length, get_or}
-use Rattle.std.proofs.Math.Path.{sym}
-use Rattle.std.proofs.Common.{◌∙◌, ap, arith}
-use Rattle.std.proofs.Math.ListN.{get_or-eq_default}
-use borrow.Author.Tests.{eq-eqb, ne_eqb, eqb-true, eqb-false, not-false}
+use Rattle.std.specs.Prelude.{ℕ, ◌<◌, true, not, cond, List, ◌≡◌, eqb, length, get_or}
 use Rattle.message.specs.declared.Plan.{Plan}
 use Rattle.message.specs.declared.Message.{Message}
-use Rattle.message.specs.Outcome.{Outcome, accepted, refused, refuse_if, number_of}
+use Rattle.message.specs.Outcome.{accepted, refuse_if, number_of}
 use Rattle.message.specs.Plan.{is_plan}
-use Rattle.message.specs.Form.{bytes_of, message_length, map_length, decode, is_in_range, has_order}
-use Rattle.message.specs.Codec.{read_message, write_message, written}
+use Rattle.message.specs.Form.{bytes_of, map_length, decode, is_in_range}
 
 -- the bytes are the form of the message, which is in range under the plan
 pub record FormOf (p : Plan) (m : Message) (bytes : List ℕ) : Type 0 where

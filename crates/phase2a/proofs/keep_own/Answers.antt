@@ -2,8 +2,8 @@
 use Rattle.phase2a.specs.Phase2a.Own.{keep_next, keep_full}
 use Rattle.phase2a.proofs.keep_own.Goals as goal
 
-pub returns-then-inbox-place : goal.returns-then-inbox-place
-returns-then-inbox-place c = keep_full _ _ _ _ c.requires _ _ c.if-inbox-place.true
+pub returns-then-inbox-own : goal.returns-then-inbox-own
+returns-then-inbox-own c = keep_full _ _ _ _ c.requires _ _ c.if-inbox-own.true
 
 pub returns : goal.returns
-returns c = keep_next _ _ _ _ c.requires _ _ c.if-inbox-place.false
+returns c = keep_next _ _ _ _ c.requires _ _ c.if-inbox-own.false

@@ -6,6 +6,6 @@ pub returns-in-None : goal.returns-in-None
 unfolding proposal
 returns-in-None c = rw c.in-None.is
 
-pub returns-in-Cast : goal.returns-in-Cast
+pub returns-in-Some : goal.returns-in-Some
 unfolding proposal
-returns-in-Cast c = rw c.in-Cast.is
+returns-in-Some c = rw c.in-Some.is

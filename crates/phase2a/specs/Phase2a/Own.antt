@@ -4,19 +4,18 @@
 --     refuses, proposes  the two answers
 --     keep_next, keep_full     what is stored: the message in the next slot, or 14 where there is none
 -- Assumes nothing.
-use Rattle.std.specs.Prelude.{ℕ, zero, suc, ◌/◌, ◌≤◌, ◌<◌, Bool, true, false, ◌||◌, List, [], ◌∷◌, ◌≡◌, refl, length}
+use Rattle.std.specs.Prelude.{ℕ, zero, suc, ◌/◌, ◌≤◌, ◌<◌, Bool, true, false, ◌||◌, List, [], ◌∷◌, ◌≡◌, refl, length, Option}
 use Rattle.std.proofs.lemmas.Bool.{false≢true}
 use Rattle.std.proofs.Common.{sym, ◌∙◌, ap, subst, eq-eqb}
 use Rattle.message.specs.declared.Plan.{Plan}
 use Rattle.message.specs.declared.Message.{Message}
 use Rattle.message.specs.declared.Message.TheVariants.{Phase2a}
-use Rattle.message.specs.Outcome.{Outcome, accepted, refused}
+use Rattle.message.specs.Outcome.{Outcome, accepted, refused, and_then}
 use Rattle.message.proofs.Outcome.Laws.{accepted_inj, accepted_not_refused}
 use Rattle.slots.specs.Table.{slot_size}
 use Rattle.slots.specs.Send.{message_at}
-use Rattle.slots.specs.declared.Store.{Store}
-use Rattle.slots.specs.declared.Store.TheVariants.{Put}
-use Rattle.slots.specs.View.{sending}
+use Rattle.slots.specs.declared.Put.{Put}
+use Rattle.slots.specs.View.{sending, put_at}
 use Rattle.slots.specs.View.Bytes.{view_bytes}
 use Rattle.slots.proofs.View.Laws.{Absent, send_absent, send_absent_full}
 use Rattle.change.specs.declared.Sent.TheVariants.{Slot}
@@ -30,9 +29,9 @@ pub record Next (inbox : List Message) (m : Message) (place : ℕ) : Type 0 wher
   pub after : place ≡ length inbox
 
 -- the 2a with its place in the inbox, or its refusal
-pub record Proposes (p : Plan) (inbox : List Message) (who i b : ℕ) (answer : Outcome Message) (place : ℕ) : Type 0 where
-  pub message : answer ≡ phase2a_message p inbox who i b
-  pub next : (m : Message) → answer ≡ accepted m → Next inbox m place
+pub record Proposes (p : Plan) (inbox : List Message) (who i b : ℕ) (answer : Outcome Put) : Type 0 where
+  pub message : and_then answer (λ own. accepted own.m) ≡ phase2a_message p inbox who i b
+  pub next : (own : Put) → answer ≡ accepted own → Next inbox own.m own.place
 
 -- a message that passes a test is not among messages that fail it
 absent_any : (test : Message → Bool) (m : Message) → test m ≡ true → (ms : List Message) → any test ms ≡ false → Absent ms m
@@ -51,21 +50,23 @@ absent_2a : (i b val : ℕ) (ms : List Message) → any (is2a i b) ms ≡ false 
 unfolding is2a
 absent_2a i b val = absent_any (is2a i b) (Phase2a i b val) (rw (eq-eqb i i refl, eq-eqb b b refl))
 
-module _ (p : Plan) (inbox : List Message) (who i b place : ℕ) where
-  pub refuses : (number : ℕ) → refused number ≡ phase2a_message p inbox who i b → Proposes p inbox who i b (refused number) place
-  refuses number e = record { message = e; next = λ m f. absurd (accepted_not_refused f) }
+module _ (p : Plan) (inbox : List Message) (who i b : ℕ) where
+  pub refuses : (number : ℕ) → refused number ≡ phase2a_message p inbox who i b → Proposes p inbox who i b (refused number)
+  unfolding and_then
+  refuses number e = record { message = e; next = λ own f. absurd (accepted_not_refused f) }
 
-  pub proposes : (val : ℕ) → accepted (Phase2a i b val) ≡ phase2a_message p inbox who i b → any (is2a i b) inbox ≡ false → place ≡ length inbox
-      → Proposes p inbox who i b (accepted (Phase2a i b val)) place
-  proposes val e none after = record { message = e; next = own }
+  pub proposes : (place val : ℕ) → accepted (Phase2a i b val) ≡ phase2a_message p inbox who i b → any (is2a i b) inbox ≡ false → place ≡ length inbox
+      → Proposes p inbox who i b (accepted (record { place = place; m = Phase2a i b val }))
+  unfolding and_then
+  proposes place val e none after = record { message = e; next = next }
     where
-      own : (m : Message) → accepted (Phase2a i b val) ≡ accepted m → Next inbox m place
-      own m f =
-          subst (λ (x : Message). Next inbox x place) (accepted_inj f) (record { absent = absent_2a i b val inbox none; after = after })
+      next : (own : Put) → accepted (record { place = place; m = Phase2a i b val }) ≡ accepted own → Next inbox own.m own.place
+      next own f =
+          subst (λ (x : Put). Next inbox x.m x.place) (accepted_inj f) (record { absent = absent_2a i b val inbox none; after = after })
 
-module _ (p : Plan) (t : List ℕ) (m : Message) (place : ℕ) (next : Next (view_bytes p t).messages m place) (slot : ℕ) (store : Store) where
+module _ (p : Plan) (t : List ℕ) (m : Message) (place : ℕ) (next : Next (view_bytes p t).messages m place) (slot : ℕ) (store : Option Put) where
   pub keep_next : place < length t / slot_size
-      → accepted (record { table = Inbox (Put place m); network = store; sent = Slot slot }) ≡ keep_own (view_bytes p t) m slot store
+      → accepted (record { table = Inbox (put_at place m); network = store; sent = Slot slot }) ≡ keep_own (view_bytes p t) m slot store
   unfolding keep_own sending
   keep_next h = rw (send_absent p t m next.absent place next.after h)
 

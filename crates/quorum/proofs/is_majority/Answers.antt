@@ -2,7 +2,6 @@
 use Prim.Native.Nat.{◌/◌}
 use mathlib.Core.Path.{◌∙◌, ap}
 use lib.Dec.{ltb}
-use borrow.Author.Rules.{rules}
 use Rattle.quorum.proofs.Quorum.Laws.{majority_half}
 use Rattle.quorum.proofs.is_majority.Goals as goal
 

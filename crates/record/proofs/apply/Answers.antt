@@ -5,5 +5,6 @@ use Rattle.record.proofs.apply.Goals as goal
 
 pub returns : goal.returns
 returns c s =
-    apply_accepted c.args.plan c.args.leader (tables_of c.args.states.now c.args.votes.now c.args.network.now c.args.inboxes.now s) c.args.verdict
-    c.in-Accepted.change c.in-Accepted.is _ _ _ _ c.update_table.ensures c.apply_store.ensures
+    rw c.in_ok-change.was
+    (apply_accepted c.args.plan c.args.leader (tables_of c.args.states.now c.args.votes.now c.args.network.now c.args.inboxes.now s)
+    c.in_ok-change.change _ _ _ _ c.update_table.ensures c.apply_store.ensures)

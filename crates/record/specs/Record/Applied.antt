@@ -5,10 +5,10 @@
 --     record_applied           that of the event's verdict: the answer and the tables, the summary marked
 -- What the event comes to, record_verdict, is of the crate `verdict`. Laws are in Applied/Laws.antt. Assumes nothing.
 pub mod Laws
-use Rattle.std.specs.Prelude.{ℕ, cond, List, ltb}
+use Rattle.std.specs.Prelude.{ℕ, cond, List, ltb, Option}
 use Rattle.message.specs.declared.Plan.{Plan}
 use Rattle.message.specs.Outcome.{Outcome, accepted, refused}
-use Rattle.slots.specs.declared.Store.{Store}
+use Rattle.slots.specs.declared.Put.{Put}
 use Rattle.slots.specs.View.{store_bytes}
 use Rattle.slots.specs.View.Bytes.{view_bytes}
 use Rattle.change.specs.declared.Update as UpdateType
@@ -21,7 +21,7 @@ use Rattle.verdict.specs.Verdict.{record_verdict}
 use Rattle.record.specs.Record.{Tables, with_states, with_votes, with_network, with_inboxes, inbox_of, with_inbox, RecordStep, record_refusal, marking}
 
 -- I after a store in leader l's inbox; there is none past the last leader
-unfoldable pub kept_inbox : Plan → List ℕ → ℕ → Store → List ℕ
+unfoldable pub kept_inbox : Plan → List ℕ → ℕ → Option Put → List ℕ
 kept_inbox p inboxes l store = cond (ltb l p.leaders) (with_inbox p inboxes l (store_bytes p store (inbox_of p inboxes l))) inboxes
 
 abbrev pub changed : Plan → ℕ → Tables → UpdateType.Update → List ℕ → Tables

@@ -1,6 +1,5 @@
 -- `refusal::has_order` meets its contract: the last two bytes are what the definition compares. Assumes nothing.
 use mathlib.Core.Path.{sym, ◌∙◌}
-use borrow.Author.Rules.{rules}
 use Rattle.message.proofs.Form.Laws.{has_order_bytes}
 use Rattle.refusal.proofs.has_order.Goals as goal
 

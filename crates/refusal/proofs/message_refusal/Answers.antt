@@ -1,6 +1,5 @@
 -- `refusal::message_refusal` meets its contract: a plan out of range, an empty slice, or what its map says. Assumes nothing.
 use mathlib.Core.Path.{refl, sym, ap}
-use borrow.Author.Rules.{rules}
 use Rattle.message.specs.Outcome.{number_of}
 use Rattle.message.proofs.Codec.Laws.{read_message_plan, read_message_empty}
 use Rattle.message.proofs.Guards.{passed, failed}

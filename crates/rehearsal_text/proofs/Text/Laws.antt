@@ -1,12 +1,14 @@
 -- Laws of the text.
 --     put_none, put_room, put_full     no text; a byte that has room; a buffer that has none
 --     put_then               one text after another
+--     put_most               no more of a text than has room
 --     put_within             a text that has room
 --     line_length            a number below 100 has a line of at most three bytes
 --     word_length            a word has at most ten
 -- Assumes nothing.
-use Rattle.std.specs.Prelude.{ℕ, suc, ◌+◌, ◌≤◌, ◌<◌, Bool, true, false, List, [], ◌∷◌, ◌++◌, ◌≡◌, refl, ltb, length, take, drop, set}
-use Rattle.std.proofs.Common.{sym, ◌∙◌, ap, arith, length-set, lt-ltb, le-ltb, ltb-false}
+use Rattle.std.specs.Prelude.{ℕ, suc, zero, ◌+◌, ◌-◌, ◌≤◌, ◌<◌, min, Bool, true, false, List, [], ◌∷◌, ◌++◌, ◌≡◌, refl, ltb, length, take, drop, set}
+use Rattle.std.proofs.Common.{sym, ◌∙◌, ap, arith, length-set, lt-ltb, le-ltb, ltb-true, ltb-false}
+use Rattle.std.proofs.Math.Seq.{take-nil}
 use Rattle.std.proofs.lemmas.List.Edits.{sets, sets-eq}
 use Rattle.ending.specs.declared.Ending as EndingType
 use Rattle.ending.specs.declared.Ending.TheVariants.{Committed, Aborted, Open}
@@ -35,6 +37,24 @@ put_then at (x ∷ a) b buffer = go (ltb at (length buffer)) refl (put_then (suc
         → put at ((x ∷ a) ++ b) buffer ≡ put (put at (x ∷ a) buffer).end b (put at (x ∷ a) buffer).buffer
     go true e rest = rw e rest
     go false e rest = rw e (sym (put_full at b buffer (ltb-false at (length buffer) e)))
+
+pub put_most : (at n : ℕ) (text buffer : List ℕ) → min (length text) (length buffer - at) ≤ n → put at (take n text) buffer ≡ put at text buffer
+put_most at n [] buffer h = ap (λ (l : List ℕ). put at l buffer) (take-nil n)
+put_most at zero (x ∷ text) buffer h = put_none at buffer ∙ sym (put_full at (x ∷ text) buffer (omega (arith, h)))
+put_most at (suc n) (x ∷ text) buffer h =
+    go (ltb at (length buffer)) refl (λ left. put_most (suc at) n text (set buffer at x) left)
+  where
+    go : (t : Bool) → ltb at (length buffer) ≡ t
+        → (min (length text) (length (set buffer at x) - suc at) ≤ n → put (suc at) (take n text) (set buffer at x) ≡ put (suc at) text (set buffer at x))
+        → put at (x ∷ take n text) buffer ≡ put at (x ∷ text) buffer
+    go true e rest =
+        let room = ltb-true at (length buffer) e in
+        put_room at x (take n text) buffer room
+        ∙ rest (rw (length-set buffer at x) (omega (arith, h)))
+        ∙ sym (put_room at x text buffer room)
+    go false e rest =
+        let full = ltb-false at (length buffer) e in
+        put_full at (x ∷ take n text) buffer full ∙ sym (put_full at (x ∷ text) buffer full)
 
 put_sets : (at : ℕ) (text buffer : List ℕ) → at + length text ≤ length buffer
     → put at text buffer ≡ put_of (at + length text) (sets buffer at text)

@@ -6,18 +6,18 @@ pub returns-then-output-lt-MAX_OUTPUT : goal.returns-then-output-lt-MAX_OUTPUT
 returns-then-output-lt-MAX_OUTPUT c = nothing_put _ _ c.if-output-lt-MAX_OUTPUT.true
 
 pub run_fresh-requires-clause-plan_value : goal.run_fresh-requires-clause-plan_value
-run_fresh-requires-clause-plan_value c = given_plan _ _ c.plan_in-begun.ensures _ c.in-Given.is
+run_fresh-requires-clause-plan_value c = given_plan _ _ c.plan_in.ensures _ c.in-Ok.is
 
 pub run_fresh-requires-clause-events_len_bound : goal.run_fresh-requires-clause-events_len_bound
 run_fresh-requires-clause-events_len_bound c = events_within _ _ c.events_in.ensures
 
-pub returns-in-Given : goal.returns-in-Given
-returns-in-Given c =
+pub returns-in-Ok : goal.returns-in-Ok
+returns-in-Ok c =
     rehearsal_put _ _ c.if-output-lt-MAX_OUTPUT.false
-    _ (plan_given_lem _ _ c.plan_in-begun.ensures _ c.in-Given.is _ c.events_in.ensures)
+    _ (plan_given_lem _ _ c.plan_in.ensures _ c.in-Ok.is _ c.events_in.ensures)
     _ c.run_fresh.ensures
 
-pub returns-in-Refused : goal.returns-in-Refused
-returns-in-Refused c =
+pub returns-in-Err : goal.returns-in-Err
+returns-in-Err c =
     rehearsal_put _ _ c.if-output-lt-MAX_OUTPUT.false
-    _ (plan_refused _ _ c.plan_in-begun.ensures _ c.in-Refused.is) _ c.put_line.ensures
+    _ (plan_refused _ _ c.plan_in.ensures _ c.in-Err.is) _ (rw c.number.ensures at c.put_line.ensures)

@@ -4,5 +4,5 @@ use Rattle.rehearsing.proofs.run_events.Goals as goal
 
 pub returns : goal.returns
 returns c =
-    run_put _ _ c.requires.events_len_bound.0 c.requires.events_len_bound.1 _ _ c.requires.summary_value _ _ c.run.ensures
+    run_put _ _ c.requires.events_len_bound c.zeros-answers.ensures _ _ c.requires.summary_value _ _ c.run.ensures
     _ c.put_answers-lines_end.ensures _ c.put_cut-cut_end.ensures _ c.ending_of.ensures _ c.put_ending.ensures

@@ -1,9 +1,8 @@
--- `search::eight_from` meets its contract: the two halves are the two words. Assumes nothing.
+-- `search::eight_from` meets its contract: the number is that of the bytes. Assumes nothing.
+use borrow.Author.Rules.{rules}
+use Rattle.search.specs.Words.Laws.{eight_le}
 use Rattle.search.proofs.eight_from.Goals as goal
 
 pub returns : goal.returns
 returns c =
-    record {
-      first = rw c.pair.ensures.first c.word_from.ensures;
-      second = rw c.pair.ensures.second c.word_from-2.ensures;
-    }
+    eight_le (search rules) (search rules) (search rules) (search rules) (search rules) (search rules) (search rules) (search rules) c.from_le_bytes.ensures

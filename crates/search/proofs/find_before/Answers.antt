@@ -2,7 +2,7 @@
 use Prim.Native.Nat.{zero-le}
 use native.Mathlib.Omega.{arith}
 use lib.Dec.{lit≤}
-use Rattle.search.proofs.Blocks.{row_further, found_end, found_row, passed_row}
+use Rattle.search.proofs.Blocks.{found_end, found_row, passed_row}
 use Rattle.search.proofs.find_before.Goals as goal
 
 pub passed_to-place-requires : goal.passed_to-place-requires
@@ -15,26 +15,21 @@ pub passed_to-from-requires : goal.passed_to-from-requires
 passed_to-from-requires c =
     (c.loop-place.invariant.before, c.requires, lit≤ tt)
 
-pub row_end-to-requires : goal.row_end-to-requires
-row_end-to-requires c = c.passed_to-from.ensures.before
-
 pub find_from-found-requires : goal.find_from-found-requires
 find_from-found-requires c =
-    let row = c.row_end-to.ensures in
-    (row.0, omega (arith, row.1, c.requires))
+    (omega (arith, c.passed_to-from.ensures.before, c.min-row.ensures), omega (arith, c.passed_to-from.ensures.before, c.min-row.ensures, c.requires))
 
 pub returns-then-found-to : goal.returns-then-found-to
 returns-then-found-to c =
-    found_row _ _ _ _ _ _ _ c.loop-place.invariant c.passed_to-from.ensures c.row_end-to.ensures.1 c.find_from-found.ensures c.if-found-to.true
+    found_row _ _ _ _ _ _ _ c.loop-place.invariant c.passed_to-from.ensures (omega (arith, c.passed_to-from.ensures.before, c.min-row.ensures)) c.find_from-found.ensures c.if-found-to.true
 
 pub loop-place-smaller : goal.loop-place-smaller
 loop-place-smaller c =
-    let row = c.row_end-to.ensures in
-    omega (arith, row.1, row_further _ _ _ _ c.loop-place-test.true c.passed_to-from.ensures.after row.0 row.2)
+    omega (arith, c.loop-place-test.true, c.passed_to-from.ensures.after, c.passed_to-from.ensures.before, c.min-row.ensures)
 
 pub loop-place-preserved : goal.loop-place-preserved
 loop-place-preserved c =
-    passed_row _ _ _ _ _ _ _ c.loop-place.invariant c.passed_to-from.ensures c.row_end-to.ensures.1 c.find_from-found.ensures c.if-found-to.false
+    passed_row _ _ _ _ _ _ _ c.loop-place.invariant c.passed_to-from.ensures (omega (arith, c.passed_to-from.ensures.before, c.min-row.ensures)) c.find_from-found.ensures c.if-found-to.false
 
 pub returns : goal.returns
 returns c = found_end _ _ _ _ _ c.loop-place-test.false c.loop-place.invariant

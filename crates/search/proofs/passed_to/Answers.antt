@@ -12,8 +12,8 @@ overflow_sub-end c = c.loop-place.invariant.before
 pub hits-requires : goal.hits-requires
 hits-requires c = omega (arith, c.loop-place.invariant.before, c.requires.1)
 
-pub returns-then-hits-ne0 : goal.returns-then-hits-ne0
-returns-then-hits-ne0 c = c.loop-place.invariant
+pub returns-then-hits : goal.returns-then-hits
+returns-then-hits c = c.loop-place.invariant
 
 pub overflow_add-place : goal.overflow_add-place
 overflow_add-place c = omega (arith, c.loop-place.invariant.before)
@@ -25,7 +25,7 @@ pub loop-place-preserved : goal.loop-place-preserved
 loop-place-preserved c =
     let passed = c.loop-place.invariant in
     passed_more _ _ _ _ _ _ (omega arith) (omega (arith, passed.before)) passed
-    (begins_form _ _ _ _ (c.hits.ensures c.if-hits-ne0.false))
+    (begins_form _ _ _ _ (c.hits.ensures c.if-hits.false))
 
 pub returns : goal.returns
 returns c = c.loop-place.invariant

@@ -4,11 +4,11 @@ use Rattle.search.proofs.send_message.Goals as goal
 
 pub returns-in-At : goal.returns-in-At
 returns-in-At c =
-    rw (← message_located _ _ c.form_of.ensures c.locate_form-place.ensures, c.in-At.is)
+    rw (← message_located _ _ c.form_of.ensures c.locate_form.ensures, c.in-At.is)
 
 pub returns-in-Free : goal.returns-in-Free
 returns-in-Free c =
-    rw (← message_located _ _ c.form_of.ensures c.locate_form-place.ensures, c.in-Free.is)
+    rw (← message_located _ _ c.form_of.ensures c.locate_form.ensures, c.in-Free.is)
 
 pub returns-in-Full : goal.returns-in-Full
-returns-in-Full c = rw (← message_located _ _ c.form_of.ensures c.locate_form-place.ensures, c.in-Full.is)
+returns-in-Full c = rw (← message_located _ _ c.form_of.ensures c.locate_form.ensures, c.in-Full.is)

@@ -2,8 +2,10 @@
 --     all_step, all_stop, all_end     one byte further: it passes, it fails, there is none
 --     all_append                      of two lists one after the other
 --     all_set                         after a byte was set
+--     list_all_all                    what an iterator's `all` answers
 -- Assumes nothing.
 use Rattle.std.specs.Prelude.{ℕ, zero, suc, ◌+◌, ◌≤◌, ◌<◌, Bool, true, false, ◌&&◌, List, [], ◌∷◌, ◌++◌, ◌≡◌, refl, length, get_or, drop, set}
+use Rattle.std.specs.List.{list_all}
 use Rattle.std.proofs.Math.Bool.{and_assoc}
 use Rattle.std.proofs.Common.{sym, ◌∙◌, ap, add-one, drop_of_length-le, drop-cons}
 use Rattle.message.proofs.Outcome.Laws.{both}
@@ -32,3 +34,8 @@ unfolding all
 all_set test [] i v h e = e
 all_set test (x ∷ l) zero v h e = rw h (both (test x) (all test l) e).1
 all_set test (x ∷ l) (suc i) v h e = let b = both (test x) (all test l) e in rw b.0 (all_set test l i v h b.1)
+
+pub list_all_all : (test : ℕ → Bool) (l : List ℕ) → list_all test l ≡ all test l
+unfolding all
+list_all_all test [] = refl
+list_all_all test (x ∷ l) = ap (λ (r : Bool). test x && r) (list_all_all test l)

@@ -5,7 +5,7 @@
 --     send_full                a send without room: the message is absent and every slot is used
 --     send_absent, send_absent_full     on any bytes: a message that is absent goes after the messages there, or has no room
 -- Assumes nothing.
-use Rattle.std.specs.Prelude.{ℕ, zero, suc, ◌+◌, ◌/◌, ◌≤◌, ◌<◌, Bool, true, false, List, [], ◌∷◌, ◌++◌, map, ◌⊎◌, ◌≡◌, refl, ltb, length}
+use Rattle.std.specs.Prelude.{ℕ, zero, suc, ◌+◌, ◌/◌, ◌≤◌, ◌<◌, Bool, true, false, List, [], ◌∷◌, ◌++◌, map, ◌⊎◌, ◌≡◌, refl, ltb, length, None, Option}
 use Rattle.std.proofs.Math.Bool.{cond}
 use Rattle.std.proofs.lemmas.Bool.{false≢true}
 use Rattle.std.proofs.Common.{inl, inr, ◌∙◌, subst₂, add-zero, zero-add, le_of_suc-le-suc, not-suc-le-zero, arith, lt-ltb, le-ltb, ltb-true, ltb-false}
@@ -24,10 +24,10 @@ use Rattle.slots.specs.Table.Scan.{slots_held, peek_messages, locate_from, locat
 use Rattle.slots.proofs.Table.Scan.Laws.{same_bytes_true, same_bytes_refl}
 use Rattle.slots.specs.Send.{same_message, place_from, place_in, message_at}
 use Rattle.slots.proofs.SendLaws.{peek_holds, messages_holds, locate_holds, store_holds}
-use Rattle.slots.specs.declared.Store.{Store}
-use Rattle.slots.specs.declared.Store.TheVariants.{Keep, Put}
-use Rattle.slots.specs.declared.Send.TheVariants.{Slot, NoRoom}
-use Rattle.slots.specs.View.{view_messages, view_table, send_of, store_bytes, store_messages}
+use Rattle.std.proofs.lemmas.Option.{same_Some}
+use Rattle.slots.specs.declared.Put.{Put}
+use Rattle.slots.specs.declared.Sending.{Sending}
+use Rattle.slots.specs.View.{view_messages, view_table, send_of, store_bytes, store_messages, put_at, sends}
 use Rattle.slots.specs.View.Bytes.{view_bytes}
 
 pub same_message_true : (p : Plan) (m m' : Message) → same_message p m m' ≡ true → m ≡ m'
@@ -99,10 +99,10 @@ pub view_judged : (p : Plan) (t : List ℕ) → is_table_length (length t) ≡ t
 view_judged p t l o = view_holds p _ _ t (holds_judged p t l o)
 
 -- what an accepted send leaves
-pub record Sent (p : Plan) (room : ℕ) (ms : List Message) (m : Message) (slot : ℕ) (store : Store) : Type 0 where
+pub record Sent (p : Plan) (room : ℕ) (ms : List Message) (m : Message) (slot : ℕ) (store : Option Put) : Type 0 where
   pub stands : message_at (store_messages store ms) slot ≡ accepted m
   pub first : Before (store_messages store ms) m slot
-  pub cases : ((store ≡ Keep) × (message_at ms slot ≡ accepted m)) ⊎ ((store ≡ Put (length ms) m) × Absent ms m)
+  pub cases : ((store ≡ None) × (message_at ms slot ≡ accepted m)) ⊎ ((store ≡ put_at (length ms) m) × Absent ms m)
   pub holds : (t : List ℕ) → Holds p room ms t → Holds p room (store_messages store ms) (store_bytes p store t)
 
 message_at_append : (ms : List Message) (m : Message) → message_at (ms ++ (m ∷ [])) (length ms) ≡ accepted m
@@ -117,35 +117,37 @@ message_at_before [] m i h = absurd (not-suc-le-zero h)
 message_at_before (x ∷ ms) m zero h = refl
 message_at_before (x ∷ ms) m (suc i) h = message_at_before ms m i (le_of_suc-le-suc h)
 
-pub send_sent : (p : Plan) (room : ℕ) (ms : List Message) (m : Message) → is_in_range p m ≡ true → (slot : ℕ) (store : Store)
-    → (view_messages p room ms).send m ≡ Slot slot store → Sent p room ms m slot store
+pub send_sent : (p : Plan) (room : ℕ) (ms : List Message) (m : Message) → is_in_range p m ≡ true → (slot : ℕ) (store : Option Put)
+    → (view_messages p room ms).send m ≡ sends slot store → Sent p room ms m slot store
 unfolding place_in
 send_sent p room ms m r slot store e = go (place_from p 0 room ms m) (place_case p 0 room ms m) e
   where
-    go : (q : Place) → PlaceCase 0 room ms m q → send_of q m ≡ Slot slot store → Sent p room ms m slot store
+    go : (q : Place) → PlaceCase 0 room ms m q → send_of q m ≡ sends slot store → Sent p room ms m slot store
     go q (at i k n s b) e =
-        let store_is : Keep ≡ store = cc in
-        let slot_is : k ≡ slot = sym (zero-add k) ∙ sym n ∙ cc in
-        subst₂ (λ (j : ℕ) (w : Store). Sent p room ms m j w) slot_is store_is (record { stands = s; first = b; cases = inl (refl, s); holds = λ t h. h })
+        let same = same_Some _ _ e in
+        let store_is = ap (λ (s : Sending). s.put) same in
+        let slot_is : k ≡ slot = sym (zero-add k) ∙ sym n ∙ ap (λ (s : Sending). s.slot) same in
+        subst₂ (λ (j : ℕ) (w : Option Put). Sent p room ms m j w) slot_is store_is (record { stands = s; first = b; cases = inl (refl, s); holds = λ t h. h })
     go q (free i n s a) e =
         let i-is : i ≡ length ms = n ∙ zero-add (length ms) in
-        let store_is : Put i m ≡ store = cc in
-        let slot_is : i ≡ slot = cc in
-        subst₂ (λ (j : ℕ) (w : Store). Sent p room ms m j w) slot_is store_is
+        let same = same_Some _ _ e in
+        let store_is = ap (λ (s : Sending). s.put) same in
+        let slot_is = ap (λ (s : Sending). s.slot) same in
+        subst₂ (λ (j : ℕ) (w : Option Put). Sent p room ms m j w) slot_is store_is
         (record {
           stands = rw i-is (message_at_append ms m);
           first = λ k l f. a k (sym (message_at_before ms m k (rw i-is at l)) ∙ f);
-          cases = inr (ap (λ (j : ℕ). Put j m) i-is, a);
+          cases = inr (ap (λ (j : ℕ). put_at j m) i-is, a);
           holds = λ t h. rw i-is (store_holds p room ms t h m (rw i-is at s) r);
         })
     go q (full s a) e = absurd (let z : ◌≡◌ {A = ℕ} 0 1 = cc in omega arith)
 
 -- there is no room only where the message is absent and every slot is used
-pub send_full : (p : Plan) (room : ℕ) (ms : List Message) (m : Message) → (view_messages p room ms).send m ≡ NoRoom → (room ≤ length ms) × Absent ms m
+pub send_full : (p : Plan) (room : ℕ) (ms : List Message) (m : Message) → (view_messages p room ms).send m ≡ None → (room ≤ length ms) × Absent ms m
 unfolding place_in
 send_full p room ms m e = go (place_from p 0 room ms m) (place_case p 0 room ms m) e
   where
-    go : (q : Place) → PlaceCase 0 room ms m q → send_of q m ≡ NoRoom → (room ≤ length ms) × Absent ms m
+    go : (q : Place) → PlaceCase 0 room ms m q → send_of q m ≡ None → (room ≤ length ms) × Absent ms m
     go q (at i k n s b) e = absurd (let z : ◌≡◌ {A = ℕ} 0 1 = cc in omega arith)
     go q (free i n s a) e = absurd (let z : ◌≡◌ {A = ℕ} 0 1 = cc in omega arith)
     go q (full s a) e = (omega arith, a)
@@ -170,8 +172,8 @@ module _ (p : Plan) (t : List ℕ) (m : Message) (a : Absent (view_bytes p t).me
       locate_absent p m (length t / slot_size) (slots_held t) 0 a
       ∙ ap (λ (n : ℕ). cond (ltb n (length t / slot_size)) (Free n) Full) (zero-add _ ∙ sym (count ∙ length-map (slots_held t) decode))
 
-  pub send_absent : used < length t / slot_size → (view_bytes p t).send m ≡ Slot used (Put used m)
+  pub send_absent : used < length t / slot_size → (view_bytes p t).send m ≡ sends used (put_at used m)
   send_absent h = ap (λ (q : Place). send_of q m) after_messages ∙ rw (lt-ltb _ _ h)
 
-  pub send_absent_full : length t / slot_size ≤ used → (view_bytes p t).send m ≡ NoRoom
+  pub send_absent_full : length t / slot_size ≤ used → (view_bytes p t).send m ≡ None
   send_absent_full h = ap (λ (q : Place). send_of q m) after_messages ∙ rw (le-ltb _ _ h)

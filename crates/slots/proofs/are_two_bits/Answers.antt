@@ -1,16 +1,10 @@
--- `slots::are_two_bits` meets its contract: the bits so far and the bytes from `i` on are at most 3 exactly when all bytes are. Assumes nothing.
-use mathlib.Core.Path.{refl}
-use borrow.Author.Rules.{rules}
-use Rattle.slots.proofs.TwoBits.{two_bits_next, two_bits_end}
+-- `slots::are_two_bits` meets its contract: all bits together are a number of two bits exactly where each byte is. Assumes nothing.
+use Rattle.std.specs.Prelude.{leb, ◌≡◌}
+use Rattle.std.specs.List.{fold}
+use Rattle.std.proofs.Common.{rules, ap, ◌∙◌, bit_or}
+use Rattle.slots.proofs.TwoBits.{two_bits_fold}
 use Rattle.slots.proofs.are_two_bits.Goals as goal
-
-pub loop-i-init : goal.loop-i-init
-loop-i-init c = (search rules, refl)
-
-pub loop-i-preserved : goal.loop-i-preserved
-loop-i-preserved c =
-    (search rules, two_bits_next _ c.loop-i.bits _ c.loop-i-test.true c.loop-i.invariant.1)
 
 pub returns : goal.returns
 returns c =
-    two_bits_end _ c.loop-i.bits _ c.loop-i-test.false c.loop-i.invariant.1
+    let e : c.fold.result ≡ fold bit_or 0 c.args.bytes.now = search rules in ap (λ bits. leb bits 3) e ∙ two_bits_fold 0 _

@@ -1,12 +1,8 @@
 -- The loop of `slots::copy_form`.
-use Prim.Native.Nat.{◌≤◌, ◌-◌}
 use mathlib.Core.Path.{◌≡◌}
 use lib.ListN.{length, take}
 use Rattle.slots.specs.Table.{slot_size}
 use Rattle.slots.proofs.copy_form.Given as goal
 
 abbrev pub invariant-loop-i : goal.invariant-loop-i
-invariant-loop-i l = (l.i ≤ slot_size) × (length l.slot ≡ slot_size) × (take l.i l.slot ≡ take l.i l.form)
-
-abbrev pub decreases-loop-i : goal.decreases-loop-i
-decreases-loop-i l = slot_size - l.i
+invariant-loop-i l = (length l.slot ≡ slot_size) × (take l.i l.slot ≡ take l.i l.form)

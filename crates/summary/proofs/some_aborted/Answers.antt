@@ -1,19 +1,16 @@
--- `summary::some_aborted` meets its contract: bit 1 of `any` stands exactly where aborted does for some instance below `i`. Assumes nothing.
-use mathlib.Core.Path.{refl}
-use native.Mathlib.Omega.{arith}
-use borrow.Author.Rules.{rules}
-use Rattle.inbox.specs.Inbox.{for_some}
-use Rattle.summary.proofs.Reading.{some_next, some_end}
+-- `summary::some_aborted` meets its contract: bit 1 of the bytes put together stands exactly where aborted does for some instance. Assumes nothing.
+use Rattle.std.specs.Prelude.{ℕ, ◌/◌, ◌%◌, ◌≤◌, ◌≡◌, eqb, length, take}
+use Rattle.std.specs.List.{fold}
+use Rattle.std.proofs.Common.{arith, ap, ◌∙◌, bit_or, length-take-le}
+use Rattle.summary.proofs.Reading.{some_fold, some_past}
 use Rattle.summary.proofs.some_aborted.Goals as goal
-
-pub loop-i-init : goal.loop-i-init
-unfolding for_some
-loop-i-init c = (omega (arith, c.covered-n.ensures), search rules, refl)
-
-pub loop-i-preserved : goal.loop-i-preserved
-loop-i-preserved c =
-    (search rules, search rules, some_next _ _ c.loop-i.any c.loop-i.invariant.2)
 
 pub returns : goal.returns
 returns c =
-    some_end _ _ _ c.loop-i.invariant.1 c.loop-i-test.false c.loop-i.any _ c.covered-n.ensures c.loop-i.invariant.2
+    let s = c.args.summary.now in
+    let n = c.min-n.result in
+    let within : n ≤ length s = omega (arith, c.min-n.ensures) in
+    let end : c.loop-byte.byte-index ≡ n = omega (arith, length-take-le n s within) in
+    ap (λ (x : ℕ). eqb (x / 2 % 2) 1) (c.loop-byte.invariant ∙ ap (λ (k : ℕ). fold bit_or 0 (take k s)) end)
+    ∙ some_fold s n within
+    ∙ some_past s n c.args.plan.rms c.min-n.ensures

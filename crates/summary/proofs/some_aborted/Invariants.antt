@@ -1,13 +1,8 @@
 -- The loop of `summary::some_aborted`.
-use Prim.Native.Nat.{◌-◌, ◌/◌, ◌%◌, ◌≤◌}
-use mathlib.Core.Path.{◌≡◌}
-use lib.Dec.{eqb}
-use lib.ListN.{length}
-use Rattle.summary.proofs.Reading.{some_aborted}
+use Rattle.std.specs.Prelude.{◌≡◌, take}
+use Rattle.std.specs.List.{fold}
+use Rattle.std.proofs.Common.{bit_or}
 use Rattle.summary.proofs.some_aborted.Given as goal
 
-abbrev pub invariant-loop-i : goal.invariant-loop-i
-invariant-loop-i l = (l.n ≤ length l.summary) × (l.i ≤ l.n) × (eqb (l.any / 2 % 2) 1 ≡ some_aborted l.summary l.i)
-
-abbrev pub decreases-loop-i : goal.decreases-loop-i
-decreases-loop-i l = l.n - l.i
+abbrev pub invariant-loop-byte : goal.invariant-loop-byte
+invariant-loop-byte l = l.any ≡ fold bit_or 0 (take l.byte-index l.summary)

@@ -1,12 +1,9 @@
 -- `tables::are_tables` meets its contract: the first parts, so many, are tables. Assumes nothing.
-use Prim.Native.Nat.{◌≤◌, ◌-◌}
-use mathlib.Core.Bool.{true}
-use mathlib.Core.Path.{◌≡◌, sym}
+use mathlib.Core.Path.{sym}
 use native.Mathlib.Omega.{arith}
 use lib.ListN.{length}
-use borrow.Author.Rules.{rules}
 use Rattle.message.proofs.Guards.{passed, failed}
-use Rattle.tables.specs.Tables.{tables_up_to, are_tables}
+use Rattle.tables.specs.Tables.{are_tables}
 use Rattle.tables.proofs.Parts.{part_within, parts_none, parts_step, parts_stop, parts_end}
 use Rattle.tables.proofs.are_tables.Goals as goal
 
@@ -18,7 +15,7 @@ pub nonzero_div-size : goal.nonzero_div-size
 nonzero_div-size c = omega (arith, c.if-parts-eq0.false)
 
 pub loop-part-init : goal.loop-part-init
-loop-part-init c = (search rules, parts_none _ _ _)
+loop-part-init c = parts_none _ _ _
 
 pub overflow_mul-from : goal.overflow_mul-from
 overflow_mul-from c =
@@ -45,9 +42,9 @@ returns-then-not-is_table_within c =
 
 pub loop-part-preserved : goal.loop-part-preserved
 loop-part-preserved c =
-    (search rules, parts_step _ _ _ _ (passed c.is_table_within.ensures c.if-not-is_table_within.false) c.loop-part.invariant.1)
+    parts_step _ _ _ _ (passed c.is_table_within.ensures c.if-not-is_table_within.false) c.loop-part.invariant
 
 pub returns : goal.returns
 unfolding are_tables
 returns c =
-    parts_end _ _ _ _ _ c.loop-part.invariant.0 c.loop-part-test.false c.loop-part.invariant.1
+    parts_end _ _ _ _ _ (omega arith) c.loop-part-test.false c.loop-part.invariant

@@ -2,7 +2,6 @@
 -- byte is 0. Assumes nothing.
 use mathlib.Core.Path.{sym, ◌∙◌}
 use native.Mathlib.Omega.{arith}
-use borrow.Author.Rules.{rules}
 use Rattle.message.proofs.Guards.{passed, failed}
 use Rattle.tables.specs.Tables.Edge.{edge_in, edge_bad, edge_good}
 use Rattle.tables.proofs.Forms.{first_zero}

@@ -2,7 +2,6 @@
 use mathlib.Core.Path.{sym}
 use native.Mathlib.Omega.{arith}
 use lib.Seq.{length-take-le}
-use borrow.Author.Rules.{rules}
 use Rattle.tables.proofs.is_unused.Goals as goal
 
 pub slice_bounds-is_zero-end : goal.slice_bounds-is_zero-end

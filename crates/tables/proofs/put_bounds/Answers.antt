@@ -1,6 +1,5 @@
 -- `tables::put_bounds` meets its contract: the rows one after the other, each at the map of its form. Assumes nothing.
 use mathlib.Core.Path.{refl}
-use borrow.Author.Rules.{rules}
 use Rattle.message.proofs.PlanLaws.{plan_bounds}
 use Rattle.message.specs.Form.{map1a, map1b, map1b_vote, map2a, map2b, map_decision}
 use Rattle.tables.specs.Tables.Bounds.{put_bounds}
@@ -19,18 +18,18 @@ unfolding put_bounds
 returns c =
     let of-1a =
     put_row_lem map1a refl (slot_1a _ _ 0 0 _ 0) (slot_1a _ _ 0 0 _ 0) refl
-    c.encode.ensures c.encode-2.ensures c.put_row.ensures in
+    refl refl c.put_row.ensures in
     let of-1b =
     put_row_lem map1b refl (slot_1b _ _ _ _ 0 0) (slot_1b _ _ _ _ 0 0) of-1a
-    c.encode-3.ensures c.encode-4.ensures c.put_row-2.ensures in
+    refl refl c.put_row-2.ensures in
     let of-vote =
     put_row_lem map1b_vote refl (slot_1b_vote _ _ _ _ _ _) (slot_1b_vote _ _ _ _ _ _) of-1b
-    c.encode-5.ensures c.encode-6.ensures c.put_row-3.ensures in
+    refl refl c.put_row-3.ensures in
     let of-2a =
     put_row_lem map2a refl (slot_2a _ _ 0 0 _ _) (slot_2a _ _ 0 0 _ _) of-vote
-    c.encode-7.ensures c.encode-8.ensures c.put_row-4.ensures in
+    refl refl c.put_row-4.ensures in
     let of-2b =
     put_row_lem map2b refl (slot_2b _ _ _ 0 _ _) (slot_2b _ _ _ 0 _ _) of-2a
-    c.encode-9.ensures c.encode-10.ensures c.put_row-5.ensures in
+    refl refl c.put_row-5.ensures in
     put_row_lem map_decision refl (slot_decision _ 0 0 0 0 _) (slot_decision _ 0 0 0 0 _) of-2b
-    c.encode-11.ensures c.encode-12.ensures c.put_row-6.ensures
+    refl refl c.put_row-6.ensures

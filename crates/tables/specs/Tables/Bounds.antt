@@ -3,15 +3,12 @@
 --     set_rows, no_order, put_row, put_bounds  the rows of a map, and all
 --     bounds_of, Bounded                      the bounds of a plan
 --     are_within, is_form                    a slot's bytes lie within two rows; within those of its map
---     is_clear                               eight bytes that are all zero
 -- proofs/Forms.antt says that such a slot is a used one. Assumes nothing.
-use Rattle.std.specs.Prelude.{ℕ, ◌+◌, ◌-◌, ◌%◌, Bool, true, ◌&&◌, ◌||◌, cond, List, [], ◌∷◌, ◌≡◌, leb, eqb, get_or, set, drop, replicate}
+use Rattle.std.specs.Prelude.{ℕ, ◌+◌, ◌-◌, ◌%◌, Bool, true, ◌&&◌, ◌||◌, cond, List, [], ◌∷◌, ◌≡◌, leb, eqb, get_or, set, drop, replicate, None}
 use Rattle.message.specs.declared.Plan.{Plan}
-use Rattle.message.specs.declared.Vote.TheVariants.{None, Cast}
 use Rattle.message.specs.declared.Message.TheVariants.{Phase1a, Phase1b, Phase2a, Phase2b, Decision}
 use Rattle.message.specs.Plan.{is_plan}
-use Rattle.message.specs.Form.{map1a, map1b, map1b_vote, map2a, map2b, map_decision, slot_size, slot_of}
-use Rattle.tables.specs.declared.Lanes.{Lanes}
+use Rattle.message.specs.Form.{map1a, map1b, map1b_vote, map2a, map2b, map_decision, slot_size, slot_of, cast_vote}
 
 -- how far above the lowest byte another lies, round past 255, is within a span: 0 is the lowest byte alone, 255 is no bound
 unfoldable pub is_within : ℕ → ℕ → ℕ → Bool
@@ -19,9 +16,9 @@ is_within low byte span =
     cond (eqb span 0) (eqb byte low)
     (leb 255 span || cond (leb low byte) (leb 255 (low + span) || leb (byte - low) span) (leb (byte + 256 - low) span))
 
--- the byte at a place of the slot that begins at an index
-unfoldable pub is_within_at : List ℕ → List ℕ → List ℕ → ℕ → ℕ → Bool
-is_within_at low span t at place = is_within (get_or low place 0) (get_or t (at + place) 0) (get_or span place 0)
+-- the byte at a place of a slot
+unfoldable pub is_within_at : List ℕ → List ℕ → List ℕ → ℕ → Bool
+is_within_at low span s place = is_within (get_or low place 0) (get_or s place 0) (get_or span place 0)
 
 -- spans are written as a message's fields, beside them the number 0
 abbrev pub no_order : Plan
@@ -44,7 +41,7 @@ put_bounds p bounds =
     put_row (put_row (put_row (put_row (put_row (put_row (set bounds 0 (1 ∷ 0 ∷ 0 ∷ 0 ∷ 0 ∷ 0 ∷ 0 ∷ 0 ∷ []))
     map1a (slot_of p (Phase1a 0 1)) (slot_of no_order (Phase1a (p.rms - 1) 254)))
     map1b (slot_of p (Phase1b 0 0 0 None)) (slot_of no_order (Phase1b (p.rms - 1) (p.acceptors - 1) 255 None)))
-    map1b_vote (slot_of p (Phase1b 0 0 0 (Cast 0 1))) (slot_of no_order (Phase1b (p.rms - 1) (p.acceptors - 1) 255 (Cast 255 1))))
+    map1b_vote (slot_of p (Phase1b 0 0 0 (cast_vote 0 1))) (slot_of no_order (Phase1b (p.rms - 1) (p.acceptors - 1) 255 (cast_vote 255 1))))
     map2a (slot_of p (Phase2a 0 0 1)) (slot_of no_order (Phase2a (p.rms - 1) 255 1)))
     map2b (slot_of p (Phase2b 0 0 0 1)) (slot_of no_order (Phase2b (p.rms - 1) (p.acceptors - 1) 255 1)))
     map_decision (slot_of p (Decision 1)) (slot_of no_order (Decision 1))
@@ -58,15 +55,11 @@ pub record Bounded (p : Plan) (bounds : List (List ℕ)) : Type 0 where
   pub rows : bounds ≡ bounds_of p
 
 -- the slot's bytes lie within two rows
-unfoldable pub are_within : List ℕ → List ℕ → List ℕ → ℕ → Bool
-are_within low span t at =
-    is_within_at low span t at 0 && is_within_at low span t at 1 && is_within_at low span t at 2 && is_within_at low span t at 3
-    && is_within_at low span t at 4 && is_within_at low span t at 5 && is_within_at low span t at 6 && is_within_at low span t at 7
+unfoldable pub are_within : List ℕ → List ℕ → List ℕ → Bool
+are_within low span s =
+    is_within_at low span s 0 && is_within_at low span s 1 && is_within_at low span s 2 && is_within_at low span s 3
+    && is_within_at low span s 4 && is_within_at low span s 5 && is_within_at low span s 6 && is_within_at low span s 7
 
 -- those of its map
-unfoldable pub is_form : List (List ℕ) → List ℕ → ℕ → Bool
-is_form b t at = are_within (get_or b (get_or t at 0 % 256) []) (get_or b (get_or t at 0 % 256 + 1) []) t at
-
-unfoldable pub is_clear : Lanes → Bool
-is_clear s =
-    eqb s.b0 0 && eqb s.b1 0 && eqb s.b2 0 && eqb s.b3 0 && eqb s.b4 0 && eqb s.b5 0 && eqb s.b6 0 && eqb s.b7 0
+unfoldable pub is_form : List (List ℕ) → List ℕ → Bool
+is_form b s = are_within (get_or b (get_or s 0 0 % 256) []) (get_or b (get_or s 0 0 % 256 + 1) []) s

@@ -1,6 +1,7 @@
 -- A test of numbers that follow each other.
 --     each, each_at, each_all, each_suc, each_end     the test of n numbers from a on: one more, no more than these
 --     halves_suc, halves_end     n numbers from 0 and from h on: one more of each, and all below 2 h
+--     each_same, each_both     a test that is the same, and two tests in one
 --     zero_all         a list of zeros
 --     interchange      two conjunctions, side by side
 -- Assumes nothing.
@@ -70,6 +71,18 @@ module _ (f : ℕ → Bool) where
       let x : n ≡ h = omega arith in
       let y : h + h ≡ 2 * h = omega arith in
       e ∙ rw x (sym (rw (zero-add h) at (each_add 0 h h))) ∙ ap (each f 0) y
+
+-- a test that is the same below n, and two tests in one
+module _ (f g : ℕ → Bool) where
+  pub each_same : (n : ℕ) → ((k : ℕ) → k < n → f k ≡ g k) → each f 0 n ≡ each g 0 n
+  unfolding each
+  each_same zero h = refl
+  each_same (suc n) h = rw (each_same n (λ k l. h k (omega arith)), zero-add n, h n (omega arith)) refl
+
+  pub each_both : (n : ℕ) → each (λ k. f k && g k) 0 n ≡ (each f 0 n && each g 0 n)
+  unfolding each
+  each_both zero = refl
+  each_both (suc n) = rw (each_both n, zero-add n) (interchange (each f 0 n) (f n) (each g 0 n) (g n))
 
 zero_from : (l : List ℕ) (a n : ℕ) (g : ℕ → Bool) → ((k : ℕ) → g (a + k) ≡ eqb (get_or l k 0) 0) → n ≡ length l → each g a n ≡ is_zero l
 unfolding is_zero all each

@@ -1,21 +1,17 @@
--- `votes::are_votes` meets its contract: the bytes from `i` on are votes exactly when all are. Assumes nothing.
+-- `votes::are_votes` meets its contract: the bytes that are left are votes exactly when all are. Assumes nothing.
+use Rattle.std.proofs.Common.{ℕ, ◌≡◌, List, rules, tests, arith, ◌∙◌, ap, Bor}
+use Rattle.std.proofs.lemmas.Iterator.Search.{all_from_yields_List}
+use Rattle.std.proofs.lemmas.Iterator.Splits.{YieldsList-from_shown_while}
+use Rattle.std.specs.Slice.Iter.{chunks_exact_rest, chunks_exact_size, chunks_exact_steps}
 use Rattle.votes.specs.Votes.{are_votes}
-use Rattle.message.proofs.Guards.{passed, failed}
-use borrow.Author.Rules.{rules}
-use lib.ListN.{length, drop}
-use Prim.Native.Nat.{◌≤◌, ◌-◌}
-use mathlib.Core.Path.{◌≡◌, sym, ◌∙◌}
-use Rattle.votes.specs.Votes.Laws.{are_votes_step, are_votes_stop, are_votes_end}
+use Rattle.votes.specs.Votes.Laws.{places, in_order, are_votes_places, places_none, places_next}
 use Rattle.votes.proofs.are_votes.Goals as goal
 
-pub loop-i-init : goal.loop-i-init
-loop-i-init c = c.leading_votes-i.ensures
-
-pub returns-then-not-is_vote_state : goal.returns-then-not-is_vote_state
-returns-then-not-is_vote_state c = sym (are_votes_stop c.args.votes.now c.loop-i.i c.loop-i-test.true (failed c.is_vote_state.ensures c.if-not-is_vote_state.true)) ∙ c.loop-i.invariant.1
-
-pub loop-i-preserved : goal.loop-i-preserved
-loop-i-preserved c = (search rules, are_votes_step c.args.votes.now c.loop-i.i c.loop-i-test.true (passed c.is_vote_state.ensures c.if-not-is_vote_state.false) ∙ c.loop-i.invariant.1)
-
 pub returns : goal.returns
-returns c = sym (are_votes_end c.args.votes.now c.loop-i.i c.loop-i-test.false) ∙ c.loop-i.invariant.1
+returns c =
+    all_from_yields_List in_order _ _ _ c.all.ensures.ran
+    (YieldsList-from_shown_while (chunks_exact_steps {A = ℕ}) (λ (x : Bor (List ℕ)). x.now) (λ s. places (chunks_exact_rest s)) (λ s. chunks_exact_size s ≡ 3)
+    (λ s t p h. places_none _ (omega (arith, h.1.0, p)))
+    (λ s x t p h. (h.0 ∙ p, ap places h.1.0 ∙ places_next _ _ (h.1.1 ∙ p))) c.chunks_exact.result c.chunks_exact.ensures.size)
+    (λ x r q k. search (rules, tests))
+    ∙ are_votes_places _ ∙ ap are_votes c.chunks_exact.ensures.rest ∙ c.after_blocks.ensures

@@ -1,11 +1,12 @@
 -- `votes::gather` meets its contract: where nothing is left, no part left anything. Assumes nothing.
-use Rattle.votes.specs.Votes.Laws.Lanes.{ordered}
+use Rattle.std.proofs.Common.{arith}
+use Rattle.votes.specs.Votes.Laws.Lanes.{or_none, ordered}
 use Rattle.votes.proofs.gather.Goals as goal
 
 pub returns : goal.returns
 returns c e =
-    let p = c.either-2.ensures e in
-    let q = c.either.ensures p.0 in (
+    let p = or_none _ _ e in
+    let q = or_none _ _ p.0 in (
       q.0,
-      ordered _ _ c.sign.result (c.over.ensures q.1) (c.over-2.ensures p.1) c.sign.ensures,
+      ordered _ _ c.min-least.result (omega (arith, q.1)) (omega (arith, p.1)) (λ z. omega arith),
     )

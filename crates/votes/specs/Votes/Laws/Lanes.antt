@@ -1,15 +1,22 @@
 -- Q tested sixteen bytes at a time: each byte and the one after it, taken for bal and val, leave a number in a lane of their own, and 0 stands
 -- for bytes in order. Only every third lane counts.
---     ordered                                    bal and val in order, by the code's tests
---     Gathered, gathered_none, _step, _all       the lanes after the first n of them were gathered
---     Clear, clear_none, _step, _all             the first n lanes that count are 0
---     block_votes                                sixteen places of Q by three times sixteen lanes
+--     or_none                                two numbers that put nothing together
+--     ordered                                bal and val in order, by the code's tests
+--     Gathered, gathered_none, _step         the lanes after the first n of them were gathered
+--     Clear, clear_none, _step               the first n lanes that count are 0
+--     Rows, rows_none, _step                 three times sixteen lanes: a block of Q, which is sixteen places
+--     three                                  three things of the same kind
+--     Passed, passed_none, _step             the blocks passed so far
 -- Assumes nothing.
-use Rattle.std.specs.Prelude.{ℕ, zero, suc, ◌+◌, ◌*◌, ◌-◌, ◌≤◌, ◌<◌, true, List, ◌≡◌, refl, length, get_or, drop, set}
+use Rattle.std.specs.Prelude.{ℕ, zero, suc, ◌+◌, ◌*◌, ◌-◌, ◌≤◌, ◌<◌, true, List, [], ◌∷◌, ◌≡◌, refl, length, get_or, drop, set}
 use Rattle.std.proofs.Math.Decide.{ℕ_discrete}
-use Rattle.std.proofs.Common.{arith, sym, ◌∙◌, length-set, get_or-set_same, get_or-set_other, le-leb}
+use Rattle.std.proofs.Common.{arith, sym, ap, ◌∙◌, length-set, get_or-set_same, get_or-set_other, le-leb}
+use lib.Bits.{bit_or, or_add_and, and_le_l, and_le_r}
 use Rattle.votes.specs.Votes.{is_vote_state, are_votes}
 use Rattle.votes.specs.Votes.Laws.{are_votes_step}
+
+pub or_none : (a b : ℕ) → bit_or a b ≡ 0 → (a ≡ 0) × (b ≡ 0)
+or_none a b e = (omega (arith, or_add_and a b, and_le_r a b), omega (arith, or_add_and a b, and_le_l a b))
 
 pub ordered : (bal val sign : ℕ) → val ≤ 2 → sign ≤ val → (sign ≡ 0 → bal ≡ 0) → is_vote_state bal val ≡ true
 unfolding is_vote_state
@@ -56,12 +63,6 @@ module _ (n : ℕ) (votes : List ℕ) (at : ℕ) (lanes after : List ℕ) (g : G
     rest = λ k h. get_or-set_other after n k r 0 (λ q. absurd (omega (arith, h, q))) ∙ g.rest k (omega (arith, h));
   }
 
-pub gathered_all : (n m : ℕ) → n ≤ m → m ≤ n → (votes : List ℕ) (at : ℕ) (lanes after : List ℕ)
-    → Gathered n votes at lanes after → Gathered m votes at lanes after
-gathered_all n m p q votes at lanes after g =
-    let e : m ≡ n = omega arith in
-    rw e g
-
 -- the first n lanes that count
 pub record Clear (n : ℕ) (lanes : List ℕ) : Type 0 where
   pub zeros : (k : ℕ) → k < n → get_or lanes (3 * k) 0 ≡ 0
@@ -75,9 +76,6 @@ clear_step n lanes c e = record { zeros = λ k. go k (ℕ_discrete k n) }
     go : (k : ℕ) → Dec (k ≡ n) → k < n + 1 → get_or lanes (3 * k) 0 ≡ 0
     go k (yes q) h = rw q e
     go k (no q) h = c.zeros k (omega (arith, q))
-
-pub clear_all : (n m : ℕ) → m ≤ n → (lanes : List ℕ) → Clear n lanes → Clear m lanes
-clear_all n m p lanes c = record { zeros = λ k h. c.zeros k (omega (arith, h)) }
 
 clear_before : (votes : List ℕ) (at : ℕ) (lanes after : List ℕ) → Gathered 16 votes at lanes after → Clear 6 after → Clear 6 lanes
 clear_before votes at lanes after g c = record { zeros = λ k h. g.zeros (3 * k) (omega (arith, h)) (c.zeros k h) }
@@ -97,15 +95,57 @@ run votes (suc n) i j at e f h s =
     (are_votes_step votes (i + 3 * n) (omega arith) (rw (← val, ← bal) (s n (omega arith)))
     ∙ run votes n i (i + 3 * n) at refl f (omega arith) (λ k l. s k (omega arith)))
 
-module _ (votes : List ℕ) (i : ℕ) (h : 47 < length votes - i) (a b c a' b' c' : List ℕ)
-    (p : Gathered 16 votes (i + 1) a a') (q : Gathered 16 votes (i + 16) b b') (r : Gathered 16 votes (i + 31) c c') where
-  pub block_votes : (Clear 6 a → Clear 6 b → Clear 6 c → are_votes (drop i votes) ≡ are_votes votes)
-      → Clear 6 a' → Clear 6 b' → Clear 6 c' → are_votes (drop (i + 48) votes) ≡ are_votes votes
-  block_votes before x y z =
-      run votes 6 (i + 30) (i + 48) (i + 31) (omega arith) (omega arith) (omega arith)
-      (λ k l. r.states (3 * k) (omega arith) (z.zeros k l))
-      ∙ run votes 5 (i + 15) (i + 30) (i + 16) (omega arith) (omega arith) (omega arith)
-      (λ k l. q.states (3 * k) (omega arith) (y.zeros k (omega arith)))
-      ∙ run votes 5 i (i + 15) (i + 1) (omega arith) (omega arith) (omega arith)
-      (λ k l. p.states (3 * k) (omega arith) (x.zeros k (omega arith)))
-      ∙ before (clear_before votes _ a a' p x) (clear_before votes _ b b' q y) (clear_before votes _ c c' r z)
+-- the first n rows of three took in the bytes from `at` on, each fifteen bytes after the last, and the rest is as before
+pub record Rows (n : ℕ) (votes : List ℕ) (at : ℕ) (rows after : List (List ℕ)) : Type 0 where
+  pub size : length after ≡ 3
+  pub sizes : (k : ℕ) → k < 3 → length (get_or after k []) ≡ 16
+  pub gathered : (k : ℕ) → k < n → Gathered 16 votes (at + 15 * k) (get_or rows k []) (get_or after k [])
+  pub rest : (k : ℕ) → n ≤ k → get_or after k [] ≡ get_or rows k []
+
+-- three things of the same kind
+pub three : {A : Type 0} (P : A → Type 0) {a b c : A} (d : A) → P a → P b → P c → (k : ℕ) → k < 3 → P (get_or (a ∷ b ∷ c ∷ []) k d)
+three P d x y z zero h = x
+three P d x y z (suc zero) h = y
+three P d x y z (suc (suc zero)) h = z
+three P d x y z (suc (suc (suc k))) h = absurd (omega (arith, h))
+
+pub rows_none : (votes : List ℕ) (at : ℕ) (rows : List (List ℕ)) → length rows ≡ 3 → ((k : ℕ) → k < 3 → length (get_or rows k []) ≡ 16)
+    → Rows 0 votes at rows rows
+rows_none votes at rows e f = record { size = e; sizes = f; gathered = λ k h. absurd (omega (arith, h)); rest = λ k h. refl }
+
+pub rows_step : (n : ℕ) (votes : List ℕ) (at : ℕ) (rows after : List (List ℕ)) → Rows n votes at rows after → n < 3 → (r : List ℕ)
+    → Gathered 16 votes (at + 15 * n) (get_or after n []) r → Rows (n + 1) votes at rows (set after n r)
+rows_step n votes at rows after g l r h = record {
+  size = length-set after n r ∙ g.size;
+  sizes = λ k m. elim (ℕ_discrete k n) [
+    | yes q ↦ rw (q, get_or-set_same after n r [] (omega (arith, g.size))) (h.size ∙ g.sizes n l)
+    | no q ↦ rw (get_or-set_other after n k r [] q) (g.sizes k m)
+  ];
+  gathered = λ k m. elim (ℕ_discrete k n) [
+    | yes q ↦ rw (q, get_or-set_same after n r [] (omega (arith, g.size))) (rw (g.rest n (omega arith)) at h)
+    | no q ↦ rw (get_or-set_other after n k r [] q) (g.gathered k (omega (arith, m, q)))
+  ];
+  rest = λ k m. get_or-set_other after n k r [] (λ q. absurd (omega (arith, m, q))) ∙ g.rest k (omega (arith, m));
+}
+
+-- where every lane that counts is 0, the bytes that are left are votes exactly when all are
+pub record Passed (votes left : List ℕ) (rows : List (List ℕ)) : Type 0 where
+  pub votes_left : ((k : ℕ) → k < 3 → Clear 6 (get_or rows k [])) → are_votes left ≡ are_votes votes
+
+pub passed_none : (votes : List ℕ) (rows : List (List ℕ)) → Passed votes votes rows
+passed_none votes rows = record { votes_left = λ c. refl }
+
+module _ (left : List ℕ) (h : 48 ≤ length left) (n : ℕ) (all : 3 ≤ n) (rows after : List (List ℕ)) (g : Rows n left 1 rows after) where
+  states : ((k : ℕ) → k < 3 → Clear 6 (get_or after k [])) → (m : ℕ) → m < 3 → (k : ℕ) → k < 6
+      → is_vote_state (get_or left (1 + 15 * m + 3 * k) 0) (get_or left (1 + 15 * m + 3 * k + 1) 0) ≡ true
+  states c m l k p = (g.gathered m (omega (arith, all, l))).states (3 * k) (omega (arith, p)) ((c m l).zeros k p)
+
+  pub passed_step : (votes rest : List ℕ) → rest ≡ drop 48 left → Passed votes left rows → Passed votes rest after
+  passed_step votes rest e before = record {
+    votes_left = λ c.
+        ap are_votes e
+        ∙ run left 6 30 48 (1 + 15 * 2) refl refl (omega arith) (states c 2 (omega arith))
+        ∙ run left 5 15 30 (1 + 15 * 1) refl refl (omega arith) (λ k l. states c 1 (omega arith) k (omega (arith, l)))
+        ∙ run left 5 0 15 (1 + 15 * 0) refl refl (omega arith) (λ k l. states c 0 (omega arith) k (omega (arith, l)))
+        ∙ before.votes_left (λ k l. clear_before left _ _ _ (g.gathered k (omega (arith, all, l))) (c k l));
+  }
