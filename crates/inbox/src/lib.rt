@@ -40,6 +40,7 @@ struct Gathered {
 }
 
 // Of two vote reports the one with the higher ballot, and of equals the first.
+#[tactic(auto, unfolding(crate::specs::Inbox::higher))]
 fn higher_vote(first: Option<Vote>, next: Vote) -> Option<Vote>
     ensures { result ≡ higher first (Some next) }
 {

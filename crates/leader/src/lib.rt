@@ -36,6 +36,7 @@ fn receipt_store(plan: Plan, inbox: &[u8], m: Message) -> Result<Change, Refusal
 }
 
 // Kind 4: 9 where the message is no 1b, no 2b and no 2a at ballot 0.
+#[tactic(auto, unfolding(crate::specs::Leader::receipt, message::specs::Outcome::refuse_if))]
 fn receipt_of(plan: Plan, inbox: &[u8], m: Message) -> Result<Change, Refusal>
     ensures { outcome result ≡ receipt (view_bytes plan inbox.now) m }
 {

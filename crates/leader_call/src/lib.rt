@@ -12,6 +12,7 @@ use change::Sent;
 use message::{Plan, Refusal};
 
 // The plan, the lengths, N and the inbox: 1, 2, 5 or 6.
+#[tactic(auto, unfolding(leader::specs::Leader::leader_judged, message::specs::Outcome::refuse_if))]
 fn judge(plan: Plan, inbox: &[u8], network: &[u8]) -> Result<(), Refusal>
     ensures { outcome result ≡ leader_judged plan inbox.now network.now }
 {

@@ -25,6 +25,7 @@ pub struct Lent<'a> {
 }
 
 // Whether the four tables have the lengths that the plan asks for; where they have not, 2.
+#[tactic(auto, unfolding(crate::specs::Opening::are_lengths, crate::specs::Opening::inbox_size))]
 fn are_lengths(plan: Plan, tables: Lent) -> bool
     requires { is_plan plan ≡ true }
     ensures { result ≡ are_lengths plan (lent tables.entry) }
@@ -46,6 +47,7 @@ fn are_lengths(plan: Plan, tables: Lent) -> bool
 }
 
 // The plan and the lengths of the four tables: 1 or 2.
+#[tactic(auto, unfolding(crate::specs::Opening::lengths_judged, message::specs::Outcome::refuse_if))]
 pub fn judge_lengths(plan: Plan, tables: Lent) -> Result<(), Refusal>
     ensures { outcome result ≡ lengths_judged plan (lent tables.entry) }
 {

@@ -232,6 +232,7 @@ fn are_tables(plan: Plan, bounds: &[[u8; SLOT_SIZE]; BOUNDS], parts: usize, tabl
 
 // The plan, N, and the inboxes as so many equal parts: 1, 5 or 6. All share the same bounds. Lengths are the caller's to judge: bytes
 // after the last whole slot or part are not looked at, and of no parts none is.
+#[tactic(auto, unfolding(crate::specs::Tables::tables_judged, message::specs::Outcome::refuse_if))]
 pub fn judge(plan: Plan, network: &[u8], parts: usize, inboxes: &[u8]) -> Result<(), Refusal>
     ensures { outcome result ≡ tables_judged plan network.now parts inboxes.now }
 {
