@@ -2,12 +2,14 @@
 // Standard input, standard output and standard error, for the programs.
 //
 //     read_input     what standard input gave: how many bytes, or why it can't be read
-//     write          bytes on standard output or standard error: how many were written
+//     write          bytes, on the writer that is lent: how many were written
+//     print          the first bytes of a buffer, on standard output
+//     complain       a sentence, on standard error
 //
 // Each is given the reader or the writer that it uses, as `rt.stdin()`. No contract can say what the system reads or writes, but how many
 // bytes; of a reader or a writer whose bytes are known these say which bytes. No public function has a `requires`.
 ghost use Rattle.std.specs.Io.KnownBytes.{Appends};
-ghost use Rattle.std.specs.Prelude.{◌≤◌, ◌≡◌, length, take};
+ghost use Rattle.std.specs.Prelude.{◌≤◌, min, ◌≡◌, length, take};
 ghost use Rattle.console.specs.Console.{Filled, Taken};
 
 use std::io;
@@ -45,4 +47,21 @@ pub fn write<W: Write>(writer: &mut W, bytes: &[u8]) -> usize
         done += taken;
     }
     done
+}
+
+// Writes the first `count` bytes of the buffer, or all where it has fewer: how many were written, fewer where a write fails.
+pub fn print<W: Write>(stdout: &mut W, buffer: &[u8], count: usize) -> usize
+    ensures count { result ≤ min count (length buffer.now) }
+    ensures bytes { Appends (W.contents stdout.old) (W.contents stdout.new) (take result buffer.now) }
+{
+    let end = count.min(buffer.len());
+    write(stdout, &buffer[..end])
+}
+
+// Writes a sentence on standard error: how many bytes were written.
+pub fn complain<W: Write>(stderr: &mut W, sentence: &[u8]) -> usize
+    ensures count { result ≤ length sentence.now }
+    ensures bytes { Appends (W.contents stderr.old) (W.contents stderr.new) (take result sentence.now) }
+{
+    write(stderr, sentence)
 }

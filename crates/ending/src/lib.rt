@@ -19,21 +19,24 @@ pub enum Ending {
     Open,
 }
 
-// Whether every byte of W is the state.
+// Whether every byte of W is the state. The first mostly tells; where it is the state, all are compared without a branch (`docs/SPEED.md`).
 fn are_all(states: &[u8], state: u8) -> bool
     ensures { result ≡ are_all state states.now }
 {
-    states.iter().all(|s| *s == state)
+    match states.first() {
+        Some(first) if *first != state => false,
+        _ => states.iter().fold(true, |same, s| same & (*s == state)),
+    }
 }
 
 // How the order stands whose W is lent.
 pub fn ending_of(states: &[u8]) -> Ending
     ensures { result ≡ ending_of states.now }
 {
-    if are_all(states, RmState::Committed as u8) {
+    if are_all(states, RmState::COMMITTED) {
         return Ending::Committed;
     }
-    if are_all(states, RmState::Aborted as u8) {
+    if are_all(states, RmState::ABORTED) {
         return Ending::Aborted;
     }
     Ending::Open

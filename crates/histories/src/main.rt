@@ -21,6 +21,8 @@
 // A read or a write that fails ends the program with its error.
 //
 // Each function is proved to be safe and to end; none has a contract on what it prints. Assumes nothing of its own.
+ghost use Rattle.std.specs.Prelude.{◌≤◌, length, IfOk};
+
 use message::{Plan, Refusal};
 use std::io;
 use std::io::{Read, Write};
@@ -129,13 +131,17 @@ fn read_number<R: Read>(input: &mut R) -> io::Result<usize> {
 }
 
 // Reads where a part at the start of the buffer ends, and lends the part.
-fn read_end<'a, R: Read>(input: &mut R, buffer: &'a mut [u8]) -> io::Result<&'a mut [u8]> {
+fn read_end<'a, R: Read>(input: &mut R, buffer: &'a mut [u8]) -> io::Result<&'a mut [u8]>
+    ensures { IfOk result (λ part. length part.now ≤ length buffer.old) }
+{
     let end = read_number(input)?.min(buffer.len());
     Ok(&mut buffer[..end])
 }
 
 // The same, and then the part's bytes.
-fn read_part<'a, R: Read>(input: &mut R, buffer: &'a mut [u8]) -> io::Result<&'a mut [u8]> {
+fn read_part<'a, R: Read>(input: &mut R, buffer: &'a mut [u8]) -> io::Result<&'a mut [u8]>
+    ensures { IfOk result (λ part. length part.now ≤ length buffer.old) }
+{
     let part = read_end(input, buffer)?;
     console::read_input(input, part)?;
     Ok(part)

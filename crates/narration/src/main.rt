@@ -20,7 +20,6 @@ use rehearsal_input::MAX_INPUT;
 use slots::MAX_SLOTS;
 use std::fmt::{Display, InlineText};
 use std::io;
-use std::io::Write;
 use words::{Answered, Refused, Row, Tried};
 
 // The bytes of N for the largest number of slots, and of an inbox.
@@ -31,7 +30,11 @@ const TEXT_SIZE: usize = 512;
 
 fn write<D: Display + Drop>(rt: &HostRuntime, words: D) -> io::Result<()> {
     let text = InlineText::<TEXT_SIZE>::of(words);
-    rt.stdout().write_all(text.as_str().as_bytes())
+    let bytes = text.as_str().as_bytes();
+    if console::write(&mut rt.stdout(), bytes) < bytes.len() {
+        return Err(io::Error::from(io::ErrorKind::WriteZero));
+    }
+    Ok(())
 }
 
 // Writes what is said of an event, with its number.
@@ -133,14 +136,14 @@ fn narrate(rt: &HostRuntime, input: &[u8]) -> io::Result<()> {
 fn main(rt: HostRuntime) {
     let mut buffer = [0; MAX_INPUT];
     let Ok(got) = console::read_input(&mut rt.stdin(), &mut buffer) else {
-        console::write(
+        console::complain(
             &mut rt.stderr(),
             b"narration: standard input can't be read\n",
         );
         return;
     };
     if narrate(&rt, &buffer[..got]).is_err() {
-        console::write(
+        console::complain(
             &mut rt.stderr(),
             b"narration: standard output can't be written\n",
         );

@@ -8,9 +8,9 @@ use rehearsing::MAX_OUTPUT;
 
 fn print(rt: &HostRuntime, input: &[u8]) {
     let mut output = [0; MAX_OUTPUT];
-    let count = rehearsing::rehearse(input, &mut output).min(MAX_OUTPUT);
-    if console::write(&mut rt.stdout(), &output[..count]) < count {
-        console::write(
+    let count = rehearsing::rehearse(input, &mut output);
+    if console::print(&mut rt.stdout(), &output, count) < count {
+        console::complain(
             &mut rt.stderr(),
             b"rehearsal: standard output can't be written\n",
         );
@@ -20,7 +20,7 @@ fn print(rt: &HostRuntime, input: &[u8]) {
 fn main(rt: HostRuntime) {
     let mut buffer = [0; MAX_INPUT];
     let Ok(got) = console::read_input(&mut rt.stdin(), &mut buffer) else {
-        console::write(
+        console::complain(
             &mut rt.stderr(),
             b"rehearsal: standard input can't be read\n",
         );

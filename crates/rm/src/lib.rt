@@ -30,7 +30,7 @@ impl Rm {
     fn choose(self, plan: Plan, network: &[u8], next: u8, val: u8) -> Result<Change, Refusal>
         ensures { outcome result ≡ rm_choose (view_bytes plan network.now) self.who self.state next val }
     {
-        if self.state != RmState::Working as u8 {
+        if self.state != RmState::WORKING {
             return Err(Refusal::NotEnabled);
         }
         let m = Message::Phase2a {
@@ -68,18 +68,18 @@ impl Rm {
         ensures { outcome result ≡ rm_receive_decision self.who self.state val }
     {
         if val == 1 {
-            if self.state == RmState::Working as u8 {
+            if self.state == RmState::WORKING {
                 return Err(Refusal::Contradiction);
             }
-            if self.state == RmState::Aborted as u8 {
+            if self.state == RmState::ABORTED {
                 return Err(Refusal::Contradiction);
             }
-            return self.decided(RmState::Committed as u8);
+            return self.decided(RmState::COMMITTED);
         }
-        if self.state == RmState::Committed as u8 {
+        if self.state == RmState::COMMITTED {
             return Err(Refusal::Contradiction);
         }
-        self.decided(RmState::Aborted as u8)
+        self.decided(RmState::ABORTED)
     }
 
     // 9 where the message is no decision.
@@ -120,8 +120,8 @@ pub fn evaluate(plan: Plan, states: &[u8], network: &[u8], event: &[u8]) -> Resu
         state: message::byte_at(states, event.who as usize),
     };
     let (next, val) = match event.kind {
-        Kind::Prepare => (RmState::Prepared as u8, 1),
-        Kind::ChooseToAbort => (RmState::Aborted as u8, 2),
+        Kind::Prepare => (RmState::PREPARED, 1),
+        Kind::ChooseToAbort => (RmState::ABORTED, 2),
         Kind::TakeDecision => return rm.receive_at(network, event.slot()),
         _ => return Err(Refusal::Event),
     };

@@ -13,14 +13,24 @@ pub enum RmState {
     Aborted = 3,
 }
 
+impl RmState {
+    pub const WORKING: u8 = RmState::Working as u8;
+
+    pub const PREPARED: u8 = RmState::Prepared as u8;
+
+    pub const COMMITTED: u8 = RmState::Committed as u8;
+
+    pub const ABORTED: u8 = RmState::Aborted as u8;
+}
+
 // The numbers of the four states are the four numbers of specs/RmState.antt, in order.
 pub fn rm_states() -> [u8; 4]
     ensures { result ≡ working ∷ prepared ∷ committed ∷ aborted ∷ [] }
 {
     [
-        RmState::Working as u8,
-        RmState::Prepared as u8,
-        RmState::Committed as u8,
-        RmState::Aborted as u8,
+        RmState::WORKING,
+        RmState::PREPARED,
+        RmState::COMMITTED,
+        RmState::ABORTED,
     ]
 }

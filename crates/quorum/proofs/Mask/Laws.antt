@@ -3,7 +3,7 @@
 --     has_bit_insert, has_bit_other     the bit that was set, and any other
 --     join_bit                          so after a joining the members are those before, and the acceptor that joined
 --     ones_count, mask_quorum           the ones are the bits that stand, so a mask's majority is the quorum of its members
---     bit_value, or_insert                  a bit's value in a byte, and setting the bit by it
+--     bit_value, bit_value_32, or_insert    a bit's value in a byte and in 32 bits, and setting the bit by it
 --     ones_low, ones_all                counting the ones of the low bits, and of a byte
 -- Assumes nothing.
 use Rattle.std.specs.Prelude.{ℕ, zero, suc, ◌+◌, ◌*◌, ◌/◌, ◌%◌, ◌^◌, ◌≤◌, ◌<◌, max, Bool, true, false, ◌||◌, cond, ◌≡◌, refl, ltb, eqb}
@@ -68,9 +68,12 @@ pub mask_quorum : (total mask : ℕ) → is_majority total (ones total mask) ≡
 unfolding is_quorum
 mask_quorum total mask = ap (is_majority total) (ones_count total mask)
 
--- 1 shifted
+-- 1 shifted, in a word that is wide enough
 pub bit_value : (a : ℕ) → a < 8 → 1 * 2 ^ a % 256 ≡ 2 ^ a
 bit_value a h = shl_exact 1 a 8 (lit< tt) (omega arith) ∙ one-mul (2 ^ a)
+
+pub bit_value_32 : (a : ℕ) → a < 32 → 1 * 2 ^ a % 4294967296 ≡ 2 ^ a
+bit_value_32 a h = shl_exact 1 a 32 (lit< tt) (omega arith) ∙ one-mul (2 ^ a)
 
 -- the value of bit a is 2 ^ a
 pub or_insert : (a mask : ℕ) → bit_or mask (2 ^ a) ≡ insert_bit mask a

@@ -1,11 +1,11 @@
 -- Testing Q place by place.
---     are_votes_step                           one place further, which is in order
+--     are_votes_step, are_votes_stop, are_votes_end  one place further: it is in order, it is not, there is none
 --     places, in_order, are_votes_places       the places by themselves
 --     places_none, places_next                 no place, and one more
 --     are_votes_at, are_votes_set              a place of Q in order, and Q after one place was written
 -- Laws/Lanes.antt has many places tested at a time. Assumes nothing.
 pub mod Lanes
-use Rattle.std.specs.Prelude.{ℕ, zero, suc, ◌+◌, ◌*◌, ◌-◌, ◌≤◌, ◌<◌, Bool, true, List, [], ◌∷◌, ◌++◌, ◌≡◌, refl, length, get_or, drop, set}
+use Rattle.std.specs.Prelude.{ℕ, zero, suc, ◌+◌, ◌*◌, ◌-◌, ◌≤◌, ◌<◌, Bool, true, false, List, [], ◌∷◌, ◌++◌, ◌≡◌, refl, length, get_or, drop, set}
 use Rattle.std.proofs.Common.{arith, lit≤, length-drop, length-set, drop-cons}
 use Rattle.std.specs.List.{list_all}
 use Rattle.message.proofs.Outcome.Laws.{both}
@@ -23,12 +23,19 @@ module _ (l : List ℕ) (i : ℕ) where
   unfolding are_votes
   are_votes_step h e = rw (drop_three h, e)
 
+  pub are_votes_stop : 2 < length l - i → is_vote_state (get_or l (i + 1) 0) (get_or l (i + 2) 0) ≡ false → are_votes (drop i l) ≡ false
+  unfolding are_votes
+  are_votes_stop h e = rw (drop_three h, e)
+
 are_votes_short : (l : List ℕ) → length l ≤ 2 → are_votes l ≡ true
 unfolding are_votes
 are_votes_short [] h = refl
 are_votes_short (mbal ∷ []) h = refl
 are_votes_short (mbal ∷ bal ∷ []) h = refl
 are_votes_short (mbal ∷ bal ∷ val ∷ votes) h = absurd (omega (arith, h))
+
+pub are_votes_end : (l : List ℕ) (i : ℕ) → length l - i ≤ 2 → are_votes (drop i l) ≡ true
+are_votes_end l i h = are_votes_short (drop i l) (omega (arith, length-drop i l))
 
 -- the whole places, three bytes each
 unfoldable pub places : List ℕ → List (List ℕ)

@@ -2,8 +2,9 @@
 -- for bytes in order. Only every third lane counts.
 --     or_none                                two numbers that put nothing together
 --     ordered                                bal and val in order, by the code's tests
---     Gathered, gathered_none, _step         the lanes after the first n of them were gathered
---     Clear, clear_none, _step               the first n lanes that count are 0
+--     Gathered, gathered_none, _step, _all   the lanes after the first n of them were gathered
+--     Clear, clear_none, _step, _all         the first n lanes that count are 0
+--     block_votes                            sixteen places of Q by three times sixteen lanes
 --     Rows, rows_none, _step                 three times sixteen lanes: a block of Q, which is sixteen places
 --     three                                  three things of the same kind
 --     Passed, passed_none, _step             the blocks passed so far
@@ -63,6 +64,12 @@ module _ (n : ℕ) (votes : List ℕ) (at : ℕ) (lanes after : List ℕ) (g : G
     rest = λ k h. get_or-set_other after n k r 0 (λ q. absurd (omega (arith, h, q))) ∙ g.rest k (omega (arith, h));
   }
 
+pub gathered_all : (n m : ℕ) → n ≤ m → m ≤ n → (votes : List ℕ) (at : ℕ) (lanes after : List ℕ)
+    → Gathered n votes at lanes after → Gathered m votes at lanes after
+gathered_all n m p q votes at lanes after g =
+    let e : m ≡ n = omega arith in
+    rw e g
+
 -- the first n lanes that count
 pub record Clear (n : ℕ) (lanes : List ℕ) : Type 0 where
   pub zeros : (k : ℕ) → k < n → get_or lanes (3 * k) 0 ≡ 0
@@ -76,6 +83,9 @@ clear_step n lanes c e = record { zeros = λ k. go k (ℕ_discrete k n) }
     go : (k : ℕ) → Dec (k ≡ n) → k < n + 1 → get_or lanes (3 * k) 0 ≡ 0
     go k (yes q) h = rw q e
     go k (no q) h = c.zeros k (omega (arith, q))
+
+pub clear_all : (n m : ℕ) → m ≤ n → (lanes : List ℕ) → Clear n lanes → Clear m lanes
+clear_all n m p lanes c = record { zeros = λ k h. c.zeros k (omega (arith, h)) }
 
 clear_before : (votes : List ℕ) (at : ℕ) (lanes after : List ℕ) → Gathered 16 votes at lanes after → Clear 6 after → Clear 6 lanes
 clear_before votes at lanes after g c = record { zeros = λ k h. g.zeros (3 * k) (omega (arith, h)) (c.zeros k h) }
@@ -94,6 +104,19 @@ run votes (suc n) i j at e f h s =
     rw here
     (are_votes_step votes (i + 3 * n) (omega arith) (rw (← val, ← bal) (s n (omega arith)))
     ∙ run votes n i (i + 3 * n) at refl f (omega arith) (λ k l. s k (omega arith)))
+
+module _ (votes : List ℕ) (i : ℕ) (h : 47 < length votes - i) (a b c a' b' c' : List ℕ)
+    (p : Gathered 16 votes (i + 1) a a') (q : Gathered 16 votes (i + 16) b b') (r : Gathered 16 votes (i + 31) c c') where
+  pub block_votes : (Clear 6 a → Clear 6 b → Clear 6 c → are_votes (drop i votes) ≡ are_votes votes)
+      → Clear 6 a' → Clear 6 b' → Clear 6 c' → are_votes (drop (i + 48) votes) ≡ are_votes votes
+  block_votes before x y z =
+      run votes 6 (i + 30) (i + 48) (i + 31) (omega arith) (omega arith) (omega arith)
+      (λ k l. r.states (3 * k) (omega arith) (z.zeros k l))
+      ∙ run votes 5 (i + 15) (i + 30) (i + 16) (omega arith) (omega arith) (omega arith)
+      (λ k l. q.states (3 * k) (omega arith) (y.zeros k (omega arith)))
+      ∙ run votes 5 i (i + 15) (i + 1) (omega arith) (omega arith) (omega arith)
+      (λ k l. p.states (3 * k) (omega arith) (x.zeros k (omega arith)))
+      ∙ before (clear_before votes _ a a' p x) (clear_before votes _ b b' q y) (clear_before votes _ c c' r z)
 
 -- the first n rows of three took in the bytes from `at` on, each fifteen bytes after the last, and the rest is as before
 pub record Rows (n : ℕ) (votes : List ℕ) (at : ℕ) (rows after : List (List ℕ)) : Type 0 where
