@@ -67,7 +67,10 @@ pub fn decode_message(bytes: &[u8]) -> Message
 pub fn read_message(plan: Plan, bytes: &[u8]) -> Result<Message, Refusal>
     ensures { outcome result ≡ read_message plan bytes.now }
 {
-    refusal::message_refusal(plan, bytes)?;
+    // Not by `?`, which names no refusal: so an edit of the refusal alone is refused by the contract, and by nothing else.
+    if let Err(refusal) = refusal::message_refusal(plan, bytes) {
+        return Err(refusal);
+    }
     Ok(decode_message(bytes))
 }
 

@@ -1,19 +1,14 @@
 -- How an order stands, said of each resource manager's state.
 --     Everyone                                  every one is in the state
 --     are_all_true, are_all_of                  what `are_all` says
---     all_fold, first_other                     every byte at once; the first byte is another
 --     ending_committed, _aborted, _open         the ending by the tests, as the code meets them
 --     committed_exactly, open_exactly, aborted_exactly     when the ending is which
 -- Assumes nothing.
-use Rattle.std.specs.Prelude.{ℕ, zero, suc, ◌<◌, Bool, true, false, ◌&&◌, List, [], ◌∷◌, Some, ◌↔◌, ◌≡◌, refl, eqb, length, get_or, slice_get}
-use Rattle.std.specs.List.{fold}
-use Rattle.std.proofs.Math.Bool.{and_assoc, and-true}
-use Rattle.std.proofs.lemmas.Option.{slice_get_within, get_or_from_slice_get}
+use Rattle.std.specs.Prelude.{ℕ, zero, suc, ◌<◌, Bool, true, false, List, [], ◌∷◌, ◌↔◌, ◌≡◌, refl, eqb, length, get_or}
 use Rattle.std.proofs.lemmas.Bool.{false≢true}
-use Rattle.std.proofs.Common.{sym, ◌∙◌, le_of_suc-le-suc, arith, eq-eqb, ne_eqb, eqb-true}
+use Rattle.std.proofs.Common.{sym, ◌∙◌, le_of_suc-le-suc, arith, eq-eqb, eqb-true}
 use Rattle.message.proofs.Outcome.Laws.{both}
 use Rattle.slots.specs.All.{all}
-use Rattle.slots.proofs.All.Laws.{all_stop}
 use Rattle.tcommit.specs.RmState.{committed, aborted}
 use Rattle.ending.specs.declared.Ending.TheVariants.{Committed, Aborted, Open}
 use Rattle.ending.specs.Ending.{are_all, ending_of}
@@ -31,16 +26,6 @@ pub are_all_of : (state : ℕ) (states : List ℕ) → Everyone state states →
 unfolding are_all all
 are_all_of state [] h = refl
 are_all_of state (x ∷ xs) h = rw (eq-eqb x state (h zero (omega arith))) (are_all_of state xs (λ i k. h (suc i) (omega arith)))
-
-pub all_fold : (state : ℕ) (so_far : Bool) (states : List ℕ) → fold (λ same s. same && eqb s state) so_far states ≡ (so_far && are_all state states)
-unfolding are_all all
-all_fold state so_far [] = sym (and-true so_far)
-all_fold state so_far (s ∷ states) = all_fold state (so_far && eqb s state) states ∙ and_assoc so_far _ _
-
-pub first_other : (state first : ℕ) (states : List ℕ) → slice_get states 0 ≡ Some first → (first ≡ state → ⊥) → false ≡ are_all state states
-unfolding are_all
-first_other state first states e n =
-    sym (all_stop (λ s. eqb s state) states 0 (slice_get_within states 0 first e) (rw (get_or_from_slice_get states 0 first 0 e) (ne_eqb first state n)))
 
 -- the three endings differ
 aborted_committed : Aborted ≡ Committed → ⊥

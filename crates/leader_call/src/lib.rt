@@ -39,7 +39,10 @@ pub fn step(
     ensures { leader_step_of result inbox.new summary.new network.new ≡
         leader_step plan inbox.old summary.old network.old event.now }
 {
-    judge(plan, inbox, network)?;
+    // Not by `?`, which names no refusal: so an edit of the refusal alone is refused by the contract, and by nothing else.
+    if let Err(refusal) = judge(plan, inbox, network) {
+        return Err(refusal);
+    }
     if !summary::is_summary(summary, plan.rms as usize) {
         return Err(Refusal::Summary);
     }

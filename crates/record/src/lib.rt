@@ -167,6 +167,9 @@ pub fn step(
         inboxes,
         summary,
     };
-    judge_lent(plan, tables)?;
+    // Not by `?`, which names no refusal: so an edit of the refusal alone is refused by the contract, and by nothing else.
+    if let Err(refusal) = judge_lent(plan, tables) {
+        return Err(refusal);
+    }
     perform(plan, states, votes, network, inboxes, summary, event)
 }

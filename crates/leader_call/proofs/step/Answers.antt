@@ -1,15 +1,14 @@
 -- `leader_call::step` meets its contract: what was judged, and what was then performed. Assumes nothing.
 use Rattle.message.proofs.Guards.{passed, failed}
-use Rattle.message.proofs.Outcome.Laws.{left_by}
 use Rattle.leader.proofs.Judging.{call_refused, call_unsound, call_sound}
 use Rattle.leader_call.proofs.step.Goals as goal
 
-pub returns-in_err-judge : goal.returns-in_err-judge
-returns-in_err-judge c = rw (left_by c.from_residual.ensures.1) (call_refused _ _ _ _ _ _ c.in_err-judge.ensures)
+pub returns-in-Err : goal.returns-in-Err
+returns-in-Err c = call_refused _ _ _ _ _ _ c.in-Err.ensures
 
 pub returns-then-not-is_summary : goal.returns-then-not-is_summary
 returns-then-not-is_summary c =
-    call_unsound _ _ _ _ _ c.in_ok-judge.ensures (failed c.is_summary.ensures c.if-not-is_summary.true)
+    call_unsound _ _ _ _ _ c.in_default.ensures (failed c.is_summary.ensures c.if-not-is_summary.true)
 
 pub returns : goal.returns
-returns c = call_sound _ _ _ _ _ c.in_ok-judge.ensures (passed c.is_summary.ensures c.if-not-is_summary.false) _ c.perform.ensures
+returns c = call_sound _ _ _ _ _ c.in_default.ensures (passed c.is_summary.ensures c.if-not-is_summary.false) _ c.perform.ensures
