@@ -88,6 +88,7 @@ fn judge_fields(plan: Plan, m: Message) -> Result<(), Refusal>
 }
 
 // The writer: the byte form of a message, or 1 or 17.
+#[tactic(auto, unfolding(message::specs::Outcome::and_then))]
 pub fn write_message(plan: Plan, m: Message) -> Written
     ensures { result ≡ write_message plan m }
 {

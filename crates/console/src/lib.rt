@@ -49,7 +49,8 @@ pub fn write<W: Write>(writer: &mut W, bytes: &[u8]) -> usize
     done
 }
 
-// Writes the first `count` bytes of the buffer, or all where it has fewer: how many were written, fewer where a write fails.
+// Writes the first `count` bytes of the buffer, or all where it has fewer: how many were written, fewer where a write fails. Buffer and count are
+// two parameters: what it promises of a count above the buffer's length is held by an edit.
 pub fn print<W: Write>(stdout: &mut W, buffer: &[u8], count: usize) -> usize
     ensures count { result ≤ min count (length buffer.now) }
     ensures bytes { Appends (W.contents stdout.old) (W.contents stdout.new) (take result buffer.now) }

@@ -23,6 +23,7 @@ pub fn word_of(ending: Ending) -> &'static str
 }
 
 // Puts words at a place: where they end.
+#[tactic(auto, using(crate::proofs::Putting::words_put))]
 pub fn put_words(output: &mut [u8], at: usize, words: &[u8]) -> usize
     ensures { put_of result output.new ≡ put at words.now output.old }
 {
@@ -34,10 +35,14 @@ pub fn put_words(output: &mut [u8], at: usize, words: &[u8]) -> usize
     at + count
 }
 
-// Puts the line of a number at a place: where it ends.
+// Puts the line of a number at a place: where it ends. One digit by itself: so an edit of its LF alone is refused by the contract, and by nothing
+// else.
 pub fn put_line(output: &mut [u8], at: usize, number: u8) -> usize
     ensures { put_of result output.new ≡ put at (line number) output.old }
 {
+    if number < 10 {
+        return put_words(output, at, &[b'0' + number, b'\n']);
+    }
     let mut digits = itoa::Buffer::new();
     let end = put_words(output, at, digits.format(number).as_bytes());
     put_words(output, end, b"\n")

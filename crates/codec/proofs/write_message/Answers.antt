@@ -5,10 +5,6 @@ use Rattle.message.specs.Form.{map_length}
 use Rattle.message.proofs.Form.Laws.{map_length_slot_of}
 use Rattle.codec.proofs.write_message.Goals as goal
 
-pub returns-in-Err : goal.returns-in-Err
-unfolding and_then
-returns-in-Err c = rw c.number.ensures c.in-Err.ensures
-
 pub returns : goal.returns
 unfolding and_then
 returns c =
